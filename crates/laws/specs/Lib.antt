@@ -1,0 +1,3 @@
+pub mod If
+pub mod Sums
+pub mod Lists

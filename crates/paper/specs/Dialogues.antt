@@ -1,0 +1,282 @@
+-- DIALOGUE STATES (01, "Dialogue states"): what a request or a timer does to one dialogue. It is told its local ID (me), and
+-- knows neither its place nor another service. Assumes nothing.
+use mathlib.Core.Bool.{Bool, true, false}
+use mathlib.Core.List.{List, [], _∷_, _++_}
+use Prim.Native.Nat.{ℕ, zero, suc, _+_, _*_, _-_, _/_, _%_}
+use lib.ListN.{length, getD, take, replicate}
+use lib.Dec.{eqb, ltb, leb}
+use Rattle.laws.specs.If.{ifLt, ifEq, ifB}
+use Rattle.paper.specs.declared.Reading.{Reading}
+use Rattle.paper.specs.declared.Reading.the-variants.{Ends, Fault}
+use Rattle.paper.specs.declared.Reject.{Reject}
+use Rattle.paper.specs.declared.Control.{Control}
+use Rattle.paper.specs.declared.Row.{Row}
+use Rattle.paper.specs.Sizes.{mostInvocations, mostWaiting, mostRejects, depths, nextTurn, idOctets}
+use Rattle.paper.specs.Elements.{element}
+use Rattle.paper.specs.Problems.{senderOfProblem, byUser, kindOf, noProblem}
+use Rattle.paper.specs.Components.{Item, components, codeEnd, invokeTag}
+use Rattle.paper.specs.Messages.{noRun}
+use Rattle.paper.specs.Writing.{invokeOctets, resultOctets, errorOctets, rejectOctets, beginOctets, continueOctets, endOctets, uniOctets, userAbortOctets}
+use Rattle.paper.specs.Invocations.{idle, sent, wait, rejecting, noInvocation, idleSlot, invocationOf, stateOf, toState, toIdle, passed, allTransmitted, mayReject}
+use Rattle.paper.specs.Rows.{dialogueRow, cancelRow, rowAbort}
+
+-- the states; 0 is a free place
+abbrev pub dialogueFree : ℕ
+dialogueFree = 0
+
+abbrev pub dialogueOpen : ℕ
+dialogueOpen = 1
+
+abbrev pub dialogueSent : ℕ
+dialogueSent = 2
+
+abbrev pub dialogueReceived : ℕ
+dialogueReceived = 3
+
+abbrev pub dialogueActive : ℕ
+dialogueActive = 4
+
+-- a place: its control record and its waiting octets
+pub record Place : Type 0 where
+  pub control : Control
+  pub waiting : List ℕ
+
+-- no dialogue; the turn is kept
+abbrev pub noReject : Reject
+noReject = record { id = 0; problem = 0 }
+
+abbrev pub emptyControl : ℕ → Control
+emptyControl turn = record {
+  turn = turn; state = dialogueFree; service = 0; peerlen = 0; peer = replicate 4 0; count = 0;
+  invocations = replicate mostInvocations noInvocation; rejects = replicate mostRejects noReject;
+}
+
+abbrev pub emptyPlace : ℕ → Place
+emptyPlace turn = record { control = emptyControl turn; waiting = [] }
+
+-- "the turn goes up by one .. each time its place is freed"
+abbrev pub freed : Place → Place
+freed x = emptyPlace (nextTurn (x .control .turn))
+
+-- a dialogue begun in a free place
+abbrev pub begun : ℕ → ℕ → ℕ → ℕ → List ℕ → Control
+begun turn state service peerlen peer = record {
+  turn = turn; state = state; service = service; peerlen = peerlen; peer = peer; count = 0;
+  invocations = replicate mostInvocations noInvocation; rejects = replicate mostRejects noReject;
+}
+
+abbrev pub withControl : Place → Control → Place
+withControl x c = record { control = c; waiting = x .waiting }
+
+abbrev pub withState : Control → ℕ → Control
+withState c state = record {
+  turn = c .turn; state = state; service = c .service; peerlen = c .peerlen; peer = c .peer; count = c .count;
+  invocations = c .invocations; rejects = c .rejects;
+}
+
+-- the peer's ID: its octets
+abbrev pub peerOf : Control → List ℕ
+peerOf c = take (c .peerlen) (c .peer)
+
+-- WHAT A REQUEST GIVES to its dialogue
+pub record Done : Type 0 where
+  pub answer : ℕ
+  pub place : Place
+  pub rows : List Row
+  pub message : List ℕ
+
+abbrev pub refused : ℕ → Place → Done
+refused n x = record { answer = n; place = x; rows = []; message = [] }
+
+-- "All but 0 change nothing."
+abbrev pub unlessRefused : ℕ → Place → Done → Done
+unlessRefused zero x o = o
+unlessRefused (suc n) x o = refused (suc n) x
+
+abbrev pub done : Place → List Row → List ℕ → Done
+done x rows message = record { answer = 0; place = x; rows = rows; message = message }
+
+-- OCTETS GIVEN (answer 11): "octets given for operation, error, parameter or dialogue portion not one well-formed element of
+-- its kind, or reaching depth 17 in what it becomes part of"
+abbrev pub endsAt : ℕ → Reading → Bool
+endsAt n (Ends e) = eqb e n
+endsAt n (Fault f) = false
+
+-- one well-formed element with d depths to go
+unfoldable pub isElement : ℕ → List ℕ → Bool
+isElement d l = endsAt (length l) (element l d (length l) 0)
+
+-- an operation or an error
+unfoldable pub isCode : List ℕ → Bool
+isCode l = ifEq (length l) 0 false (eqb (codeEnd l (length l) 0) (length l))
+
+-- a parameter of an invoke or error, depth 2, or none
+unfoldable pub isParameter : List ℕ → Bool
+isParameter l = ifEq (length l) 0 true (isElement 15 l)
+
+-- "only one of a result's operation and parameter"; the parameter is in the 30, depth 3
+unfoldable pub isResult : List ℕ → List ℕ → Bool
+isResult op par = ifEq (length op) 0 (eqb (length par) 0) (ifB (isCode op) (isElement 14 par) false)
+
+-- "a whole 6B element or none"
+unfoldable pub isPortion : List ℕ → Bool
+isPortion l = ifEq (length l) 0 true (ifEq (getD l 0 0) 0x6B (isElement depths l) false)
+
+-- WAITING COMPONENTS. Answer 12: "waiting components .. over 240 octets"
+unfoldable pub overfull : Place → List ℕ → ℕ
+overfull x l = ifLt mostWaiting (length (x .waiting) + length l) 12 0
+
+abbrev pub passing : Place → Control → List ℕ → Done
+passing x c l = done (record { control = c; waiting = x .waiting ++ l }) [] []
+
+-- COMPONENTS PASSED. "Open takes a place (ruling); only invokes may be passed then"; "Components may be passed in Sent, Received, Active."
+unfoldable pub invokeRefusal : Place → ℕ → ℕ → ℕ → List ℕ → List ℕ → ℕ
+invokeRefusal x id linked class op par =
+    ifLt class 1 8
+    (ifLt 4 class 8
+    (ifEq (stateOf (x .control) id) idle
+    (ifEq (idleSlot (x .control .invocations)) mostInvocations 10
+    (ifB (isCode op) (ifB (isParameter par) (overfull x (invokeOctets id linked op par)) 11) 11))
+    9))
+
+unfoldable pub resultRefusal : Place → ℕ → ℕ → List ℕ → List ℕ → ℕ
+resultRefusal x tag id op par =
+    ifEq (x .control .state) dialogueOpen 6 (ifB (isResult op par) (overfull x (resultOctets tag id op par)) 11)
+
+unfoldable pub errorRefusal : Place → ℕ → List ℕ → List ℕ → ℕ
+errorRefusal x id err par =
+    ifEq (x .control .state) dialogueOpen 6
+    (ifB (isCode err) (ifB (isParameter par) (overfull x (errorOctets id err par)) 11) 11)
+
+-- 8: "a problem code that the user may not send"
+unfoldable pub rejectRefusal : Place → ℕ → ℕ → ℕ
+rejectRefusal x id p =
+    ifEq (x .control .state) dialogueOpen 6
+    (ifEq (senderOfProblem p) byUser
+    (ifB (mayReject (kindOf p) (invocationOf (x .control .invocations) id)) (overfull x (rejectOctets id p)) 9)
+    8)
+
+-- "Rejecting until transmitted"; an invoke's reject changes no invocation of ours
+unfoldable pub rejectedBy : Control → ℕ → ℕ → Control
+rejectedBy c id p = ifEq (kindOf p) 1 c (toState c id rejecting)
+
+-- "Timeout or cancel: Sent to Idle. .. Reject timeout: Wait to Idle."
+unfoldable pub needs : Place → ℕ → ℕ → ℕ
+needs x id state = ifEq (stateOf (x .control) id) state 0 9
+
+-- "Timeout gives L-CANCEL but in class 4."
+unfoldable pub timeoutRows : ℕ → Place → ℕ → List Row
+timeoutRows me x id = ifEq (invocationOf (x .control .invocations) id .class) 4 [] (cancelRow me id ∷ [])
+
+-- SENDING: "Sending writes waiting components in order, then all waiting rejects if the sum is at most 240, else they wait (003)."
+unfoldable pub allRejects : List Reject → List ℕ
+allRejects [] = []
+allRejects (r ∷ rs) = rejectOctets (r .id) (r .problem) ++ allRejects rs
+
+unfoldable pub waitingRejects : Control → List ℕ
+waitingRejects c = allRejects (take (c .count) (c .rejects))
+
+unfoldable pub rejectsFit : Place → Bool
+rejectsFit x = leb (length (x .waiting) + length (waitingRejects (x .control))) mostWaiting
+
+unfoldable pub sentComponents : Place → List ℕ
+sentComponents x = ifB (rejectsFit x) (x .waiting ++ waitingRejects (x .control)) (x .waiting)
+
+abbrev pub withoutRejects : Control → Control
+withoutRejects c = record {
+  turn = c .turn; state = c .state; service = c .service; peerlen = c .peerlen; peer = c .peer; count = 0;
+  invocations = c .invocations; rejects = replicate mostRejects noReject;
+}
+
+-- what a sending leaves
+unfoldable pub afterSending : Place → ℕ → Place
+afterSending x state = record {
+  control = ifB (rejectsFit x) (withoutRejects (allTransmitted (withState (x .control) state))) (allTransmitted (withState (x .control) state));
+  waiting = [];
+}
+
+-- "Begin (to Sent) and Unidirectional (frees) need Open. Continue (to Active) and basic end (frees) need Received or Active."
+unfoldable pub needsOpen : Place → ℕ
+needsOpen x = ifEq (x .control .state) dialogueOpen 0 6
+
+unfoldable pub needsPeer : Place → ℕ
+needsPeer x = ifEq (x .control .state) dialogueReceived 0 (ifEq (x .control .state) dialogueActive 0 6)
+
+unfoldable pub needsSent : Place → ℕ
+needsSent x = ifEq (x .control .state) dialogueSent 0 6
+
+-- "Unidirectional with no component or with one not of class 4" (answer 6): each waiting one is an invoke whose ID is open with class 4
+unfoldable pub ofClass4 : Control → Item → Bool
+ofClass4 c i =
+    ifEq (i .part .fault) 3
+    (ifEq (i .part .tag) invokeTag (eqb (invocationOf (c .invocations) (i .part .id) .class) 4) false)
+    false
+
+unfoldable pub everyItem : (Item → Bool) → List Item → Bool
+everyItem f [] = true
+everyItem f (i ∷ is) = ifB (f i) (everyItem f is) false
+
+unfoldable pub uniRefusal : Place → ℕ
+uniRefusal x =
+    ifEq (x .control .state) dialogueOpen
+    (ifB (everyItem (ofClass4 (x .control)) (components (x .waiting) (length (x .waiting)) 0)) 0 6)
+    6
+
+-- "Prearranged end and user abort (both free): any; only abort takes a dialogue portion, .. and writes a message only in
+-- Received and Active."
+unfoldable pub abortRefusal : List ℕ → ℕ
+abortRefusal portion = ifB (isPortion portion) (ifLt mostWaiting (length portion) 12 0) 11
+
+unfoldable pub abortMessage : Place → List ℕ → List ℕ
+abortMessage x portion = ifEq (needsPeer x) 0 (userAbortOctets (peerOf (x .control)) portion) []
+
+-- THE REQUESTS AND TIMER EVENTS on a dialogue; IDs are octets, a linked ID is 256 where there is none, tag is A2 or A7
+pub data Request : Type 0 where
+  Invoke : ℕ → ℕ → ℕ → List ℕ → List ℕ → Request
+  Result : ℕ → ℕ → List ℕ → List ℕ → Request
+  Error : ℕ → List ℕ → List ℕ → Request
+  UserReject : ℕ → ℕ → Request
+  Cancel : ℕ → Request
+  Begin Continue End Prearranged : Request
+  Abort : List ℕ → Request
+  Unidirectional : Request
+  Timeout RejectTimeout : ℕ → Request
+  NoReaction : Request
+
+-- its refusal from 6 on, 0 for none: "Where several apply, the lowest."
+unfoldable pub refusal : Place → Request → ℕ
+refusal x (Invoke id linked class op par) = invokeRefusal x id linked class op par
+refusal x (Result tag id op par) = resultRefusal x tag id op par
+refusal x (Error id err par) = errorRefusal x id err par
+refusal x (UserReject id p) = rejectRefusal x id p
+refusal x (Cancel id) = needs x id sent
+refusal x Begin = needsOpen x
+refusal x Continue = needsPeer x
+refusal x End = needsPeer x
+refusal x Prearranged = 0
+refusal x (Abort portion) = abortRefusal portion
+refusal x Unidirectional = uniRefusal x
+refusal x (Timeout id) = needs x id sent
+refusal x (RejectTimeout id) = needs x id wait
+refusal x NoReaction = needsSent x
+
+-- what it does where it isn't refused. "An end drops what it didn't send."
+unfoldable pub does : ℕ → Place → Request → Done
+does me x (Invoke id linked class op par) = passing x (passed (x .control) id class) (invokeOctets id linked op par)
+does me x (Result tag id op par) = passing x (x .control) (resultOctets tag id op par)
+does me x (Error id err par) = passing x (x .control) (errorOctets id err par)
+does me x (UserReject id p) = passing x (rejectedBy (x .control) id p) (rejectOctets id p)
+does me x (Cancel id) = done (withControl x (toIdle (x .control) id)) [] []
+does me x Begin = done (afterSending x dialogueSent) [] (beginOctets (idOctets me) (sentComponents x))
+does me x Continue =
+    done (afterSending x dialogueActive) [] (continueOctets (idOctets me) (peerOf (x .control)) (sentComponents x))
+does me x End = done (freed x) [] (endOctets (peerOf (x .control)) (sentComponents x))
+does me x Prearranged = done (freed x) [] []
+does me x (Abort portion) = done (freed x) [] (abortMessage x portion)
+does me x Unidirectional = done (freed x) [] (uniOctets (sentComponents x))
+does me x (Timeout id) = done (withControl x (toIdle (x .control) id)) (timeoutRows me x id) []
+does me x (RejectTimeout id) = done (withControl x (toIdle (x .control) id)) [] []
+does me x NoReaction = done (freed x) (dialogueRow rowAbort me noProblem noRun 0 ∷ []) []
+
+unfoldable pub request : ℕ → Place → Request → Done
+request me x r = unlessRefused (refusal x r) x (does me x r)

@@ -1,0 +1,17 @@
+pub mod Sizes
+pub mod Elements
+pub mod Problems
+pub mod Components
+pub mod Messages
+pub mod Writing
+pub mod Invocations
+pub mod Rows
+pub mod Shares
+pub mod Dialogues
+pub mod Calls
+pub mod Layout
+pub mod Rules
+pub mod Readers
+pub mod Outcome
+pub mod Computing
+pub mod Examples

@@ -1,0 +1,94 @@
+-- ROWS (01, "Rows"). Assumes nothing.
+use mathlib.Core.List.{List, [], _∷_, _++_}
+use Prim.Native.Nat.{ℕ, zero, suc, _+_, _*_, _-_, _/_, _%_}
+use lib.ListN.{length}
+use Rattle.laws.specs.If.{ifLt, ifEq}
+use Rattle.paper.specs.declared.Component.{Component}
+use Rattle.paper.specs.declared.Run.{Run}
+use Rattle.paper.specs.declared.Control.{Control}
+use Rattle.paper.specs.declared.Row.{Row}
+use Rattle.paper.specs.Problems.{noProblem}
+use Rattle.paper.specs.Components.{Item, noID}
+use Rattle.paper.specs.Messages.{noRun}
+use Rattle.paper.specs.Invocations.{act}
+
+-- "Kinds 1 UNI, 2 BEGIN, 3 CONTINUE, 4 END, 5 U-ABORT, 6 P-ABORT, 7 INVOKE, 8 RESULT-L, 9 RESULT-NL, 10 U-ERROR, 11 U-REJECT,
+-- 12 R-REJECT, 13 L-REJECT stored, 14 L-REJECT not stored, 15 L-CANCEL": 7 to 14 are given by `act`
+abbrev pub rowUni : ℕ
+rowUni = 1
+
+abbrev pub rowBegin : ℕ
+rowBegin = 2
+
+abbrev pub rowContinue : ℕ
+rowContinue = 3
+
+abbrev pub rowEnd : ℕ
+rowEnd = 4
+
+abbrev pub rowUserAbort : ℕ
+rowUserAbort = 5
+
+abbrev pub rowAbort : ℕ
+rowAbort = 6
+
+abbrev pub rowCancel : ℕ
+rowCancel = 15
+
+-- "invoke ID plus 128 (256 none)": the octet is the ID modulo 256
+unfoldable pub signed : ℕ → ℕ
+signed octet = ifLt octet 128 (octet + 128) (ifLt octet 256 (octet - 128) noID)
+
+-- the row of a dialogue: "start and length of the .. dialogue portion in the message (0, 0 none ..); component rows that follow"
+abbrev pub dialogueRow : ℕ → ℕ → ℕ → Run → ℕ → Row
+dialogueRow kind me cause portion follow = record {
+  kind = kind; dialogue = me; invoke = noID; linked = noID; problem = cause;
+  start = portion .start; length = portion .length; follow = follow;
+}
+
+-- L-CANCEL
+abbrev pub cancelRow : ℕ → ℕ → Row
+cancelRow me id = record {
+  kind = rowCancel; dialogue = me; invoke = signed id; linked = noID; problem = noProblem; start = 0; length = 0; follow = 0;
+}
+
+-- "start and length of the component ..(0, 0 none or no frame)", from at to x
+unfoldable pub startOf : ℕ → ℕ → ℕ
+startOf at x = ifLt at x at 0
+
+unfoldable pub extentOf : ℕ → ℕ → ℕ
+extentOf at x = ifLt at x (x - at) 0
+
+-- the row of a component that starts at `at`, of the kind and problem that `act` gave
+unfoldable pub componentRow : ℕ → ℕ → ℕ → ℕ → Component → Row
+componentRow me at kind p c = record {
+  kind = kind; dialogue = me; invoke = signed (c .id); linked = signed (c .linked); problem = p;
+  start = startOf at (c .stop); length = extentOf at (c .stop); follow = 0;
+}
+
+abbrev pub rowBy : ℕ → ℕ → Control → Item → Row
+rowBy me room c i = componentRow me (i .start) (act room c (i .part) .kind) (act room c (i .part) .problem) (i .part)
+
+-- every component in order acts, and is shown
+unfoldable pub allActed : ℕ → Control → List Item → Control
+allActed room c [] = c
+allActed room c (i ∷ is) = allActed room (act room c (i .part) .control) is
+
+unfoldable pub componentRows : ℕ → ℕ → Control → List Item → List Row
+componentRows me room c [] = []
+componentRows me room c (i ∷ is) = rowBy me room c i ∷ componentRows me room (act room c (i .part) .control) is
+
+-- "8 32-bit numbers (in C calls four octets, least significant first)"
+abbrev pub fourOctets : ℕ → List ℕ → List ℕ
+fourOctets n l = n % 256 ∷ (n / 256 % 256 ∷ (n / 65536 % 256 ∷ (n / 16777216 % 256 ∷ l)))
+
+abbrev pub rowOctets : Row → List ℕ
+rowOctets r =
+    fourOctets (r .kind)
+    (fourOctets (r .dialogue)
+    (fourOctets (r .invoke)
+    (fourOctets (r .linked) (fourOctets (r .problem) (fourOctets (r .start) (fourOctets (r .length) (fourOctets (r .follow) [])))))))
+
+unfoldable pub rowsOctets : List Row → List ℕ
+rowsOctets [] = []
+rowsOctets (r ∷ rs) = rowOctets r ++ rowsOctets rs
