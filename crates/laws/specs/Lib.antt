@@ -1,3 +1,7 @@
 pub mod If
+pub mod Picks
 pub mod Sums
 pub mod Lists
+pub mod Digits
+pub mod Runs
+pub mod Parts

@@ -1,8 +1,94 @@
--- Lists made of a function. Assumes nothing.
-use mathlib.Core.List.{List, [], _∷_}
-use Prim.Native.Nat.{ℕ, zero, suc}
+-- Lists made of a function, their sums; padding, runs of zeros, the first that passes a test. Assumes nothing.
+use mathlib.Core.Path.{_≡_, refl, sym, ap, _∙_}
+use mathlib.Core.List.{List, [], _∷_, _++_}
+use mathlib.Core.Bool.{Bool, true, false}
+use Prim.Native.Nat.{ℕ, zero, suc, _+_, _*_, _-_, _≤_, _<_}
+use native.Mathlib.Omega.{arith}
+use native.Mathlib.Nat.{not-suc-le-zero, le-of-suc-le-suc, zero-add, suc-add, add-suc, add-zero}
+use lib.Dec.{eqb}
+use borrow.Author.Tests.{eqb-true, eqb-false}
+use lib.ListN.{length, getD, set, length-set}
+use lib.Seq.{ext-getD, getD-set-same, getD-set-other}
+use Rattle.laws.specs.If.{ifEq, ifB}
+use Rattle.laws.specs.Sums.{sum, sum-ext, sumBy}
 
--- f at i, i + 1, .. : n of them
-abbrev pub tab : {A : Type 0} → ℕ → ℕ → (ℕ → A) → List A
-tab zero i f = []
-tab (suc n) i f = f i ∷ tab n (suc i) f
+-- n octets: those of l, then zeros
+unfoldable pub pad : ℕ → List ℕ → List ℕ
+pad zero l = []
+pad (suc n) [] = 0 ∷ pad n []
+pad (suc n) (x ∷ l) = x ∷ pad n l
+
+-- a run of zeros
+unfoldable pub zeros : List ℕ → Bool
+zeros [] = true
+zeros (x ∷ l) = ifEq x 0 (zeros l) false
+
+-- the first of a list that passes a test, by its index; the length where none does
+unfoldable pub firstAt : {A : Type 0} → (A → Bool) → List A → ℕ
+firstAt f [] = 0
+firstAt f (x ∷ l) = ifB (f x) 0 (suc (firstAt f l))
+
+-- each of a list passes a test
+unfoldable pub every : {A : Type 0} → (A → Bool) → List A → Bool
+every f [] = true
+every f (x ∷ l) = ifB (f x) (every f l) false
+
+module _ {A : Type 0} where
+  -- f at i, i + 1, .. : n of them
+  abbrev pub tab : ℕ → ℕ → (ℕ → A) → List A
+  tab zero i f = []
+  tab (suc n) i f = f i ∷ tab n (suc i) f
+
+  pub length-tab : (n i : ℕ) (f : ℕ → A) → length (tab n i f) ≡ n
+  length-tab zero i f = refl
+  length-tab (suc n) i f = ap suc (length-tab n (suc i) f)
+
+  pub getD-tab : (n i j : ℕ) (f : ℕ → A) (d : A) → j < n → getD (tab n i f) j d ≡ f (i + j)
+  getD-tab zero i j f d h = absurd (not-suc-le-zero h)
+  getD-tab (suc n) i zero f d h = ap f (sym (add-zero i))
+  getD-tab (suc n) i (suc j) f d h = getD-tab n (suc i) j f d (le-of-suc-le-suc h) ∙ ap f (suc-add i j ∙ sym (add-suc i j))
+
+  pub at-tab : (n j : ℕ) (f : ℕ → A) (d : A) → j < n → getD (tab n 0 f) j d ≡ f j
+  at-tab n j f d h = getD-tab n 0 j f d h ∙ ap f (zero-add j)
+
+  -- where f changes at p alone, the list changes by one `set`
+  pub tab-set : (n : ℕ) (f h : ℕ → A) (p : ℕ) → p < n → ((j : ℕ) → (j ≡ p → ⊥) → h j ≡ f j) → (d : A) → tab n 0 h ≡ set (tab n 0 f) p (h p)
+  tab-set n f h p lt same d =
+      ext-getD d (tab n 0 h) (set (tab n 0 f) p (h p)) (length-tab n 0 h ∙ sym (length-set (tab n 0 f) p (h p) ∙ length-tab n 0 f))
+      (λ j jl. go j (omega (arith, length-tab n 0 h)) (eqb j p) refl)
+    where
+      go : (j : ℕ) → j < n → (b : Bool) → eqb j p ≡ b → getD (tab n 0 h) j d ≡ getD (set (tab n 0 f) p (h p)) j d
+      go j jl true e =
+          at-tab n j h d jl ∙ ap h (eqb-true j p e)
+          ∙ sym (ap (λ (i : ℕ). getD (set (tab n 0 f) p (h p)) i d) (eqb-true j p e) ∙ getD-set-same (tab n 0 f) p (h p) d (omega (arith, length-tab n 0 f)))
+      go j jl false e =
+          at-tab n j h d jl ∙ same j (eqb-false j p e) ∙ sym (at-tab n j f d jl)
+          ∙ sym (getD-set-other (tab n 0 f) p j (h p) d (eqb-false j p e))
+
+  -- a list is had back from its elements
+  pub tab-all : (n : ℕ) (l : List A) (d : A) → length l ≡ n → tab n 0 (λ i. getD l i d) ≡ l
+  tab-all n l d e = ext-getD d (tab n 0 (λ i. getD l i d)) l (length-tab n 0 (λ i. getD l i d) ∙ sym e) (λ j h. at-tab n j (λ i. getD l i d) d (omega (arith, length-tab n 0 (λ i. getD l i d))))
+
+  pub tab-ext : (n : ℕ) (f h : ℕ → A) (d : A) → ((j : ℕ) → j < n → f j ≡ h j) → tab n 0 f ≡ tab n 0 h
+  tab-ext n f h d e =
+      ext-getD d (tab n 0 f) (tab n 0 h) (length-tab n 0 f ∙ sym (length-tab n 0 h))
+      (λ j l. let g : j < n = omega (arith, length-tab n 0 f) in at-tab n j f d g ∙ e j g ∙ sym (at-tab n j h d g))
+
+sum-front : (f : ℕ → ℕ) (n : ℕ) → sum f (suc n) ≡ f 0 + sum (λ j. f (suc j)) n
+sum-front f zero = omega arith
+sum-front f (suc n) = omega (arith, sum-front f n)
+
+pub sumBy-tab : {A : Type 0} (g : A → ℕ) (n i : ℕ) (f : ℕ → A) → sumBy g (tab n i f) ≡ sum (λ j. g (f (i + j))) n
+sumBy-tab g zero i f = refl
+sumBy-tab g (suc n) i f =
+    ap (λ (m : ℕ). g (f i) + m) (sumBy-tab g n (suc i) f ∙ same n)
+    ∙ ap (λ (m : ℕ). g (f m) + sum (λ j. g (f (i + suc j))) n) (sym (add-zero i))
+    ∙ sym (sum-front (λ j. g (f (i + j))) n)
+  where
+    same : (m : ℕ) → sum (λ j. g (f (suc i + j))) m ≡ sum (λ j. g (f (i + suc j))) m
+    same zero = refl
+    same (suc m) = omega (arith, same m, ap (λ (x : ℕ). g (f x)) (suc-add i m ∙ sym (add-suc i m)))
+
+-- a count over the list of records is the code's count over the places
+pub sum-tab : {A : Type 0} (g : A → ℕ) (n : ℕ) (f : ℕ → A) → sumBy g (tab n 0 f) ≡ sum (λ j. g (f j)) n
+sum-tab g n f = sumBy-tab g n 0 f ∙ sum-ext (λ j. g (f (0 + j))) (λ j. g (f j)) n (λ k h. ap (λ (x : ℕ). g (f x)) (zero-add k))

@@ -6,6 +6,7 @@ use Prim.Native.Nat.{ℕ, zero, suc, _+_, _*_, _-_, _/_, _%_}
 use lib.ListN.{length, getD, set, take, drop, replicate}
 use lib.Dec.{eqb, ltb}
 use Rattle.laws.specs.If.{ifLt, ifEq, ifB}
+use Rattle.laws.specs.Lists.{firstAt, pad}
 use Rattle.laws.specs.Sums.{sumBy}
 use Rattle.paper.specs.declared.Run.{Run}
 use Rattle.paper.specs.declared.Message.{Message}
@@ -16,7 +17,6 @@ use Rattle.paper.specs.Problems.{noProblem}
 use Rattle.paper.specs.Components.{Item, components}
 use Rattle.paper.specs.Messages.{messageOf, isSound, isDropped, noRun, uniTag, beginTag, endTag, continueTag}
 use Rattle.paper.specs.Writing.{causeAbortOctets}
-use Rattle.paper.specs.Invocations.{firstAt}
 use Rattle.paper.specs.Rows.{dialogueRow, componentRows, allActed, rowUni, rowBegin, rowContinue, rowEnd, rowUserAbort, rowAbort}
 use Rattle.paper.specs.Shares.{gives}
 use Rattle.paper.specs.Dialogues.{Place, Request, Done, request, emptyPlace, emptyControl, freed, begun, withControl, withState, dialogueFree, dialogueOpen, dialogueSent, dialogueReceived, dialogueActive}
@@ -88,7 +88,11 @@ shows rows message T = record { answer = 0; dialogue = 0; rows = rows; message =
 -- A REQUEST on a dialogue
 unfoldable pub stored : Table → ℕ → Done → Out
 stored T p o = record {
-  answer = o .answer; dialogue = 0; rows = o .rows; message = o .message; table = ifEq (o .answer) 0 (withPlace T p (o .place)) T;
+  answer = o .answer;
+  dialogue = 0;
+  rows = o .rows;
+  message = o .message;
+  table = ifEq (o .answer) 0 (withPlace T p (o .place)) T;
 }
 
 unfoldable pub requested : Table → ℕ → ℕ → Request → Out
@@ -153,12 +157,6 @@ shownRows kind me room c m is =
 unfoldable pub uniReceived : Table → List ℕ → Message → Out
 uniReceived T s m = shows (shownRows rowUni 0 0 (emptyControl 0) m (itemsOf s m)) [] T
 
--- n octets: those of l, then zeros
-unfoldable pub pad : ℕ → List ℕ → List ℕ
-pad zero l = []
-pad (suc n) [] = 0 ∷ pad n []
-pad (suc n) (x ∷ l) = x ∷ pad n l
-
 -- "Begin opens in Received."
 abbrev pub begunControl : Table → ℕ → ℕ → List ℕ → Message → Control
 begunControl T service p s m =
@@ -178,8 +176,14 @@ beginReceived T service s m = ifB (mayBegin T service) (beginAt T service (lowes
 -- "Continue in Sent stores the peer's ID and makes Active; later ones don't change it."
 abbrev pub withPeer : Control → ℕ → List ℕ → Control
 withPeer c peerlen peer = record {
-  turn = c .turn; state = dialogueActive; service = c .service; peerlen = peerlen; peer = peer; count = c .count;
-  invocations = c .invocations; rejects = c .rejects;
+  turn = c .turn;
+  state = dialogueActive;
+  service = c .service;
+  peerlen = peerlen;
+  peer = peer;
+  count = c .count;
+  invocations = c .invocations;
+  rejects = c .rejects;
 }
 
 unfoldable pub continuedControl : Control → List ℕ → Message → Control

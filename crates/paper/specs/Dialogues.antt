@@ -6,6 +6,7 @@ use Prim.Native.Nat.{ℕ, zero, suc, _+_, _*_, _-_, _/_, _%_}
 use lib.ListN.{length, getD, take, replicate}
 use lib.Dec.{eqb, ltb, leb}
 use Rattle.laws.specs.If.{ifLt, ifEq, ifB}
+use Rattle.laws.specs.Lists.{every}
 use Rattle.paper.specs.declared.Reading.{Reading}
 use Rattle.paper.specs.declared.Reading.the-variants.{Ends, Fault}
 use Rattle.paper.specs.declared.Reject.{Reject}
@@ -47,8 +48,14 @@ noReject = record { id = 0; problem = 0 }
 
 abbrev pub emptyControl : ℕ → Control
 emptyControl turn = record {
-  turn = turn; state = dialogueFree; service = 0; peerlen = 0; peer = replicate 4 0; count = 0;
-  invocations = replicate mostInvocations noInvocation; rejects = replicate mostRejects noReject;
+  turn = turn;
+  state = dialogueFree;
+  service = 0;
+  peerlen = 0;
+  peer = replicate 4 0;
+  count = 0;
+  invocations = replicate mostInvocations noInvocation;
+  rejects = replicate mostRejects noReject;
 }
 
 abbrev pub emptyPlace : ℕ → Place
@@ -61,8 +68,14 @@ freed x = emptyPlace (nextTurn (x .control .turn))
 -- a dialogue begun in a free place
 abbrev pub begun : ℕ → ℕ → ℕ → ℕ → List ℕ → Control
 begun turn state service peerlen peer = record {
-  turn = turn; state = state; service = service; peerlen = peerlen; peer = peer; count = 0;
-  invocations = replicate mostInvocations noInvocation; rejects = replicate mostRejects noReject;
+  turn = turn;
+  state = state;
+  service = service;
+  peerlen = peerlen;
+  peer = peer;
+  count = 0;
+  invocations = replicate mostInvocations noInvocation;
+  rejects = replicate mostRejects noReject;
 }
 
 abbrev pub withControl : Place → Control → Place
@@ -70,8 +83,14 @@ withControl x c = record { control = c; waiting = x .waiting }
 
 abbrev pub withState : Control → ℕ → Control
 withState c state = record {
-  turn = c .turn; state = state; service = c .service; peerlen = c .peerlen; peer = c .peer; count = c .count;
-  invocations = c .invocations; rejects = c .rejects;
+  turn = c .turn;
+  state = state;
+  service = c .service;
+  peerlen = c .peerlen;
+  peer = c .peer;
+  count = c .count;
+  invocations = c .invocations;
+  rejects = c .rejects;
 }
 
 -- the peer's ID: its octets
@@ -184,8 +203,14 @@ sentComponents x = ifB (rejectsFit x) (x .waiting ++ waitingRejects (x .control)
 
 abbrev pub withoutRejects : Control → Control
 withoutRejects c = record {
-  turn = c .turn; state = c .state; service = c .service; peerlen = c .peerlen; peer = c .peer; count = 0;
-  invocations = c .invocations; rejects = replicate mostRejects noReject;
+  turn = c .turn;
+  state = c .state;
+  service = c .service;
+  peerlen = c .peerlen;
+  peer = c .peer;
+  count = 0;
+  invocations = c .invocations;
+  rejects = replicate mostRejects noReject;
 }
 
 -- what a sending leaves
@@ -212,14 +237,10 @@ ofClass4 c i =
     (ifEq (i .part .tag) invokeTag (eqb (invocationOf (c .invocations) (i .part .id) .class) 4) false)
     false
 
-unfoldable pub everyItem : (Item → Bool) → List Item → Bool
-everyItem f [] = true
-everyItem f (i ∷ is) = ifB (f i) (everyItem f is) false
-
 unfoldable pub uniRefusal : Place → ℕ
 uniRefusal x =
     ifEq (x .control .state) dialogueOpen
-    (ifB (everyItem (ofClass4 (x .control)) (components (x .waiting) (length (x .waiting)) 0)) 0 6)
+    (ifB (every (ofClass4 (x .control)) (components (x .waiting) (length (x .waiting)) 0)) 0 6)
     6
 
 -- "Prearranged end and user abort (both free): any; only abort takes a dialogue portion, .. and writes a message only in

@@ -4,7 +4,8 @@ use mathlib.Core.List.{List, [], _∷_, map}
 use Prim.Native.Nat.{ℕ, zero, suc, _+_, _*_, _-_, _/_, _%_}
 use lib.ListN.{length, getD, set}
 use lib.Dec.{eqb, ltb}
-use Rattle.laws.specs.If.{ifLt, ifEq, ifB}
+use Rattle.laws.specs.If.{ifLt, ifEq}
+use Rattle.laws.specs.Lists.{firstAt}
 use Rattle.paper.specs.declared.Component.{Component}
 use Rattle.paper.specs.declared.Invocation.{Invocation}
 use Rattle.paper.specs.declared.Reject.{Reject}
@@ -33,11 +34,6 @@ rejecting = 4
 abbrev pub noInvocation : Invocation
 noInvocation = record { id = 0; class = 0; state = idle; shown = 0 }
 
--- the first of a list that passes a test, by its index; the length where none does
-unfoldable pub firstAt : {A : Type 0} → (A → Bool) → List A → ℕ
-firstAt f [] = 0
-firstAt f (x ∷ l) = ifB (f x) 0 (suc (firstAt f l))
-
 -- ours of that ID, in any state but Idle
 unfoldable pub isOpen : ℕ → Invocation → Bool
 isOpen id v = ifEq (v .state) idle false (eqb (v .id) id)
@@ -60,8 +56,14 @@ stateOf c id = invocationOf (c .invocations) id .state
 
 abbrev pub withInvocations : Control → List Invocation → Control
 withInvocations c l = record {
-  turn = c .turn; state = c .state; service = c .service; peerlen = c .peerlen; peer = c .peer; count = c .count;
-  invocations = l; rejects = c .rejects;
+  turn = c .turn;
+  state = c .state;
+  service = c .service;
+  peerlen = c .peerlen;
+  peer = c .peer;
+  count = c .count;
+  invocations = l;
+  rejects = c .rejects;
 }
 
 abbrev pub withInvocation : Control → ℕ → Invocation → Control
@@ -106,8 +108,14 @@ acted c kind p = record { control = c; kind = kind; problem = p }
 
 abbrev pub withReject : Control → Reject → Control
 withReject c r = record {
-  turn = c .turn; state = c .state; service = c .service; peerlen = c .peerlen; peer = c .peer; count = c .count + 1;
-  invocations = c .invocations; rejects = set (c .rejects) (c .count) r;
+  turn = c .turn;
+  state = c .state;
+  service = c .service;
+  peerlen = c .peerlen;
+  peer = c .peer;
+  count = c .count + 1;
+  invocations = c .invocations;
+  rejects = set (c .rejects) (c .count) r;
 }
 
 -- a reject of ours: 13 stored, 14 not. "A ninth waiting reject, or one in Unidirectional or End, isn't stored": room is 8, there 0

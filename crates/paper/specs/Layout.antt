@@ -6,14 +6,15 @@ use mathlib.Core.List.{List, [], _∷_, _++_, map}
 use Prim.Native.Nat.{ℕ, zero, suc, _+_, _*_, _-_, _/_, _%_}
 use lib.ListN.{length, getD, take, drop}
 use Rattle.laws.specs.If.{ifB}
-use Rattle.laws.specs.Lists.{tab}
+use Rattle.laws.specs.Lists.{tab, pad}
+use Rattle.laws.specs.Digits.{packedOctets, octetDigits}
 use Rattle.paper.specs.declared.Invocation.{Invocation}
 use Rattle.paper.specs.declared.Reject.{Reject}
 use Rattle.paper.specs.declared.Control.{Control}
 use Rattle.paper.specs.Sizes.{placesInAll, services, mostInvocations, mostRejects, mostWaiting, three}
 use Rattle.paper.specs.Problems.{problem, kindOf, codeOf}
 use Rattle.paper.specs.Dialogues.{Place}
-use Rattle.paper.specs.Calls.{Table, isFree, pad}
+use Rattle.paper.specs.Calls.{Table, isFree}
 
 -- "The table has one fixed size, stated in docs/."
 abbrev pub tableSize : ℕ
@@ -53,15 +54,6 @@ allPlaces (x ∷ ps) = placeOctets x ++ allPlaces ps
 -- "a map of 64-bit words, one bit a place": bit p is set where place p is free, each word's octets least significant first
 unfoldable pub flag : Place → ℕ
 flag x = ifB (isFree x) 1 0
-
--- binary digits, lowest first, as a number; eight an octet
-unfoldable pub packed : List ℕ → ℕ
-packed [] = 0
-packed (d ∷ l) = d + 2 * packed l
-
-unfoldable pub packedOctets : ℕ → List ℕ → List ℕ
-packedOctets zero l = []
-packedOctets (suc n) l = packed (take 8 l) ∷ packedOctets n (drop 8 l)
 
 abbrev pub mapOctets : List Place → List ℕ
 mapOctets ps = packedOctets 16 (map flag ps)
@@ -111,13 +103,5 @@ view t = record {
 }
 
 -- bit p of the map
-unfoldable pub digits : ℕ → ℕ → List ℕ
-digits zero n = []
-digits (suc k) n = n % 2 ∷ digits k (n / 2)
-
-unfoldable pub octetDigits : List ℕ → List ℕ
-octetDigits [] = []
-octetDigits (b ∷ bs) = digits 8 b ++ octetDigits bs
-
 unfoldable pub mapBit : List ℕ → ℕ → ℕ
 mapBit t p = getD (octetDigits (take 16 t)) p 0

@@ -42,14 +42,27 @@ signed octet = ifLt octet 128 (octet + 128) (ifLt octet 256 (octet - 128) noID)
 -- the row of a dialogue: "start and length of the .. dialogue portion in the message (0, 0 none ..); component rows that follow"
 abbrev pub dialogueRow : ℕ → ℕ → ℕ → Run → ℕ → Row
 dialogueRow kind me cause portion follow = record {
-  kind = kind; dialogue = me; invoke = noID; linked = noID; problem = cause;
-  start = portion .start; length = portion .length; follow = follow;
+  kind = kind;
+  dialogue = me;
+  invoke = noID;
+  linked = noID;
+  problem = cause;
+  start = portion .start;
+  length = portion .length;
+  follow = follow;
 }
 
 -- L-CANCEL
 abbrev pub cancelRow : ℕ → ℕ → Row
 cancelRow me id = record {
-  kind = rowCancel; dialogue = me; invoke = signed id; linked = noID; problem = noProblem; start = 0; length = 0; follow = 0;
+  kind = rowCancel;
+  dialogue = me;
+  invoke = signed id;
+  linked = noID;
+  problem = noProblem;
+  start = 0;
+  length = 0;
+  follow = 0;
 }
 
 -- "start and length of the component ..(0, 0 none or no frame)", from at to x
@@ -62,8 +75,14 @@ extentOf at x = ifLt at x (x - at) 0
 -- the row of a component that starts at `at`, of the kind and problem that `act` gave
 unfoldable pub componentRow : ℕ → ℕ → ℕ → ℕ → Component → Row
 componentRow me at kind p c = record {
-  kind = kind; dialogue = me; invoke = signed (c .id); linked = signed (c .linked); problem = p;
-  start = startOf at (c .stop); length = extentOf at (c .stop); follow = 0;
+  kind = kind;
+  dialogue = me;
+  invoke = signed (c .id);
+  linked = signed (c .linked);
+  problem = p;
+  start = startOf at (c .stop);
+  length = extentOf at (c .stop);
+  follow = 0;
 }
 
 abbrev pub rowBy : ℕ → ℕ → Control → Item → Row

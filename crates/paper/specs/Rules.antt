@@ -5,23 +5,18 @@ use Prim.Native.Nat.{ℕ, zero, suc, _+_, _*_, _-_, _/_, _%_}
 use lib.ListN.{length, getD, take, drop}
 use lib.Dec.{eqb, ltb, leb}
 use Rattle.laws.specs.If.{ifLt, ifEq, ifB, all}
+use Rattle.laws.specs.Lists.{zeros, every}
 use Rattle.paper.specs.declared.Invocation.{Invocation}
 use Rattle.paper.specs.declared.Reject.{Reject}
 use Rattle.paper.specs.declared.Control.{Control}
 use Rattle.paper.specs.Sizes.{placesInAll, services, mostInvocations, mostRejects, mostWaiting}
 use Rattle.paper.specs.Problems.{senderOfProblem, byLayer, kindOf}
-use Rattle.paper.specs.Components.{noID, components}
+use Rattle.paper.specs.Components.{Item, noID, components}
 use Rattle.paper.specs.Invocations.{idle, isOpen, slotOf}
-use Rattle.paper.specs.Dialogues.{Place, dialogueFree, dialogueReceived, dialogueActive, everyItem}
-use Rattle.paper.specs.Components.{Item}
+use Rattle.paper.specs.Dialogues.{Place, dialogueFree, dialogueReceived, dialogueActive}
 use Rattle.paper.specs.Shares.{sharesFit, sharesKept}
 use Rattle.paper.specs.Calls.{Table, guaranteeOf, limitOf, held}
 use Rattle.paper.specs.Layout.{waitingStart, placeBy, slot, mapBit, view}
-
--- a run of zeros
-unfoldable pub zeros : List ℕ → Bool
-zeros [] = true
-zeros (x ∷ l) = ifEq x 0 (zeros l) false
 
 -- "a free place is all zero but its turn"; its bit of the map is set
 unfoldable pub freeKept : List ℕ → ℕ → Bool
@@ -80,7 +75,7 @@ unfoldable pub isSoundItem : Item → Bool
 isSoundItem i = eqb (i .part .fault) 3
 
 unfoldable pub waitingKept : List ℕ → Bool
-waitingKept w = ifEq (length w) 0 true (everyItem isSoundItem (components w (length w) 0))
+waitingKept w = ifEq (length w) 0 true (every isSoundItem (components w (length w) 0))
 
 -- a place with a dialogue; its bit of the map is clear
 unfoldable pub usedKept : List ℕ → ℕ → Bool

@@ -1,0 +1,141 @@
+-- A part of a list, and a list with a part replaced: over any offset and size. Assumes nothing.
+--     part-left, part-right    a part of x ++ y that lies in x, or in y
+--     over-same                what was put is what is there
+--     over-before, over-after  a part before or after it is as it was
+--     over-in                  a part that holds it changes as the whole does
+--     places-apart             two places of one size do not meet
+use Prim.Native.Nat.{ℕ, zero, suc, _+_, _*_, _-_, _≤_, _<_}
+use mathlib.Core.Path.{_≡_, refl, sym, ap, subst, _∙_}
+use mathlib.Core.Logic.{_⊎_, inl, inr, ⊎-elim}
+use borrow.Rule.Slice.PartMut.{putMid}
+use mathlib.Core.List.{List, [], _∷_, _++_, append-assoc}
+use native.Mathlib.Nat.{suc-mul, mul-le-mul-right}
+use native.Mathlib.Omega.{arith}
+use lib.ListN.{length, take, drop, getD, length-append, length-take, length-drop, take-append-drop}
+use lib.Seq.{length-take-le, take-append-le, drop-append-le, take-append-seam, take-append-add, drop-append-add, take-at, drop-at, drop-drop}
+
+-- the n octets at a
+unfoldable pub part : ℕ → ℕ → List ℕ → List ℕ
+part a n t = take n (drop a t)
+
+-- t with v in the place of what stood at a
+unfoldable pub over : List ℕ → ℕ → List ℕ → List ℕ
+over t a v = take a t ++ (v ++ drop (a + length v) t)
+
+pub part-length : (a n : ℕ) (t : List ℕ) → a + n ≤ length t → length (part a n t) ≡ n
+unfolding part
+part-length a n t h = simp (length-take, length-drop) (omega arith)
+
+pub over-length : (t : List ℕ) (a : ℕ) (v : List ℕ) → a + length v ≤ length t → length (over t a v) ≡ length t
+unfolding over
+over-length t a v h = simp (length-append, length-take, length-drop) (omega arith)
+
+pub part-left : (x y : List ℕ) (b n : ℕ) → b + n ≤ length x → part b n (x ++ y) ≡ part b n x
+unfolding part
+part-left x y b n h =
+    ap (take n) (drop-append-le b x y (omega arith)) ∙ take-append-le n (drop b x) y (simp length-drop (omega arith))
+
+pub part-right : (x y : List ℕ) (k n : ℕ) → part (length x + k) n (x ++ y) ≡ part k n y
+unfolding part
+part-right x y k n = ap (take n) (drop-append-add x y k)
+
+pub over-same : (t : List ℕ) (a : ℕ) (v : List ℕ) → a ≤ length t → part a (length v) (over t a v) ≡ v
+unfolding part over
+over-same t a v h =
+    ap (take (length v)) (drop-at (take a t) (v ++ drop (a + length v) t) a (length-take-le a t h)) ∙ take-append-seam v (drop (a + length v) t)
+
+pub over-before : (t : List ℕ) (a : ℕ) (v : List ℕ) (b n : ℕ) → a ≤ length t → b + n ≤ a → part b n (over t a v) ≡ part b n t
+unfolding over
+over-before t a v b n h l =
+    let e : b + n ≤ length (take a t) = simp length-take (omega arith) in
+    part-left (take a t) (v ++ drop (a + length v) t) b n e ∙ sym (part-left (take a t) (drop a t) b n e) ∙ ap (part b n) (take-append-drop a t)
+
+pub over-after : (t : List ℕ) (a : ℕ) (v : List ℕ) (b n : ℕ) → a + length v ≤ length t → a + length v ≤ b → part b n (over t a v) ≡ part b n t
+unfolding over part
+over-after t a v b n h l =
+    let m : ℕ = a + length v in
+    let x : List ℕ = take a t ++ v in
+    let k : ℕ = b - m in
+    let e : length x ≡ m = simp (length-append, length-take) (omega arith) in
+    let f : b ≡ length x + k = omega (arith, e) in
+    let g : m + k ≡ b = omega arith in
+    ap (part b n) (sym (append-assoc (take a t) v (drop m t)))
+    ∙ ap (λ (i : ℕ). part i n (x ++ drop m t)) f
+    ∙ part-right x (drop m t) k n
+    ∙ ap (take n) (drop-drop k m t ∙ ap (λ (i : ℕ). drop i t) g)
+
+pub shift : (x l : List ℕ) (k : ℕ) (v : List ℕ) → over (x ++ l) (length x + k) v ≡ x ++ over l k v
+unfolding over
+shift x l k v =
+    let e : length x + k + length v ≡ length x + (k + length v) = omega arith in
+    ap (λ (y : List ℕ). y ++ (v ++ drop (length x + k + length v) (x ++ l))) (take-append-add x l k)
+    ∙ ap (λ (i : ℕ). (x ++ take k l) ++ (v ++ drop i (x ++ l))) e
+    ∙ ap (λ (y : List ℕ). (x ++ take k l) ++ (v ++ y)) (drop-append-add x l (k + length v))
+    ∙ append-assoc x (take k l) (v ++ drop (k + length v) l)
+
+stay : (y z : List ℕ) (k : ℕ) (v : List ℕ) → k + length v ≤ length y → over (y ++ z) k v ≡ over y k v ++ z
+unfolding over
+stay y z k v h =
+    ap (λ (w : List ℕ). w ++ (v ++ drop (k + length v) (y ++ z))) (take-append-le k y z (omega arith))
+    ∙ ap (λ (w : List ℕ). take k y ++ (v ++ w)) (drop-append-le (k + length v) y z h)
+    ∙ sym (append-assoc (take k y) (v ++ drop (k + length v) y) z ∙ ap (λ (w : List ℕ). take k y ++ w) (append-assoc v (drop (k + length v) y) z))
+
+-- the whole, its part with v put in at k, and what was put in the whole at a + k
+pub over-in : (t : List ℕ) (a n k : ℕ) (v : List ℕ) → a + n ≤ length t → k + length v ≤ n → over t (a + k) v ≡ over t a (over (part a n t) k v)
+unfolding over part
+over-in t a n k v h l =
+    let x : List ℕ = take a t in
+    let y : List ℕ = part a n t in
+    let z : List ℕ = drop n (drop a t) in
+    let w : List ℕ = over y k v in
+    let ex : length x ≡ a = length-take-le a t (omega arith) in
+    let ey : length y ≡ n = part-length a n t h in
+    let fits : k + length v ≤ length y = omega (arith, ey) in
+    let ew : length w ≡ n = over-length y k v fits ∙ ey in
+    let s : t ≡ x ++ (y ++ z) = sym (ap (λ (r : List ℕ). x ++ r) (take-append-drop n (drop a t)) ∙ take-append-drop a t) in
+    ap (λ (i : ℕ). over t (i + k) v) (sym ex)
+    ∙ ap (λ (r : List ℕ). over r (length x + k) v) s
+    ∙ shift x (y ++ z) k v
+    ∙ ap (λ (r : List ℕ). x ++ r) (stay y z k v fits)
+    ∙ ap (λ (r : List ℕ). x ++ (w ++ r)) (drop-drop n a t ∙ ap (λ (i : ℕ). drop (a + i) t) (sym ew))
+
+pub places-apart : (size p q : ℕ) → p < q → p * size + size ≤ q * size
+places-apart size p q h = subst (λ (n : ℕ). n ≤ q * size) (suc-mul p size) (mul-le-mul-right size h)
+
+apart : (m k : ℕ) → (m ≡ k → ⊥) → (k < m) ⊎ (m < k)
+apart zero zero n = absurd (n refl)
+apart zero (suc k) n = inr (omega arith)
+apart (suc m) zero n = inl (omega arith)
+apart (suc m) (suc k) n = ⊎-elim (λ g. inl (omega arith)) (λ g. inr (omega arith)) (apart m k (λ e. n (ap suc e)))
+
+-- place q of a table whose place p was replaced
+pub other-place : (base size p q : ℕ) (t v : List ℕ) → base + p * size + size ≤ length t → length v ≤ size → (p ≡ q → ⊥)
+    → part (base + q * size) size (over t (base + p * size) v) ≡ part (base + q * size) size t
+other-place base size p q t v h l n =
+    ⊎-elim
+    (λ g. over-before t (base + p * size) v (base + q * size) size (omega arith) (omega (arith, places-apart size q p g)))
+    (λ g. over-after t (base + p * size) v (base + q * size) size (omega arith) (omega (arith, places-apart size p q g)))
+    (apart p q n)
+
+-- place p of a table whose place p was replaced from its start on
+pub same-place : (a n : ℕ) (t v : List ℕ) → a + n ≤ length t → length v ≤ n → part a n (over t a v) ≡ over (part a n t) 0 v
+same-place a n t v h l =
+    let w : List ℕ = over (part a n t) 0 v in
+    let ey : length (part a n t) ≡ n = part-length a n t h in
+    let ew : length w ≡ n = over-length (part a n t) 0 v (omega (arith, ey)) ∙ ey in
+    let z : over t a v ≡ over t a w = ap (λ (i : ℕ). over t i v) (omega arith) ∙ over-in t a n 0 v h (omega arith) in
+    ap (part a n) z ∙ ap (λ (i : ℕ). part a i (over t a w)) (sym ew) ∙ over-same t a w (omega arith)
+
+-- what a part that was lent leaves, as the checker has it
+pub put-over : (a k : ℕ) (t v : List ℕ) → length v ≡ k → putMid a k t v ≡ over t a v
+unfolding over
+put-over a k t v e = ap (λ (r : List ℕ). take a t ++ (v ++ r)) (drop-drop k a t ∙ ap (λ (i : ℕ). drop (a + i) t) (sym e))
+
+-- a callee that was lent &mut t[a..e] put v at k of its part: so v stands at a + k of the whole
+pub lent-over : (t : List ℕ) (a e k : ℕ) (v last : List ℕ) → a ≤ e → e ≤ length t → k + length v ≤ e - a
+    → last ≡ over (part a (e - a) t) k v → putMid a (e - a) t last ≡ over t (a + k) v
+lent-over t a e k v last h g l q =
+    let ey : length (part a (e - a) t) ≡ e - a = part-length a (e - a) t (omega arith) in
+    ap (putMid a (e - a) t) q
+    ∙ put-over a (e - a) t (over (part a (e - a) t) k v) (over-length (part a (e - a) t) k v (omega (arith, ey)) ∙ ey)
+    ∙ sym (over-in t a (e - a) k v (omega arith) l)
