@@ -1,15 +1,15 @@
 -- Lists made of a function, their sums; padding, runs of zeros, the first that passes a test. Assumes nothing.
 use mathlib.Core.Path.{_≡_, refl, sym, ap, _∙_}
-use mathlib.Core.List.{List, [], _∷_, _++_}
+use mathlib.Core.List.{List, [], _∷_, _++_, map, append-nil}
 use mathlib.Core.Bool.{Bool, true, false}
 use Prim.Native.Nat.{ℕ, zero, suc, _+_, _*_, _-_, _≤_, _<_}
 use native.Mathlib.Omega.{arith}
 use native.Mathlib.Nat.{not-suc-le-zero, le-of-suc-le-suc, zero-add, suc-add, add-suc, add-zero}
 use lib.Dec.{eqb}
 use borrow.Author.Tests.{eqb-true, eqb-false}
-use lib.ListN.{length, getD, set, length-set}
-use lib.Seq.{ext-getD, getD-set-same, getD-set-other}
-use Rattle.laws.specs.If.{ifEq, ifB}
+use lib.ListN.{length, getD, set, take, drop, length-set, length-map, drop-of-length-le, List·getD-map}
+use lib.Seq.{ext-getD, getD-set-same, getD-set-other, drop-cons, take-suc, take-all, set-at, append-snoc, length-take-le}
+use Rattle.laws.specs.If.{ifEq, ifB, yes, no}
 use Rattle.laws.specs.Sums.{sum, sum-ext, sumBy}
 
 -- n octets: those of l, then zeros
@@ -92,3 +92,46 @@ sumBy-tab g (suc n) i f =
 -- a count over the list of records is the code's count over the places
 pub sum-tab : {A : Type 0} (g : A → ℕ) (n : ℕ) (f : ℕ → A) → sumBy g (tab n 0 f) ≡ sum (λ j. g (f j)) n
 sum-tab g n f = sumBy-tab g n 0 f ∙ sum-ext (λ j. g (f (0 + j))) (λ j. g (f j)) n (λ k h. ap (λ (x : ℕ). g (f x)) (zero-add k))
+
+-- THE FIRST THAT PASSES, found by a loop: what is found from i on
+module _ {A : Type 0} (f : A → Bool) (d : A) where
+  pub first-le : (l : List A) → firstAt f l ≤ length l
+  unfolding firstAt
+  first-le [] = omega arith
+  first-le (x ∷ l) = go (f x) refl (first-le l)
+    where
+      go : (b : Bool) → f x ≡ b → firstAt f l ≤ length l → ifB (f x) 0 (suc (firstAt f l)) ≤ suc (length l)
+      go true e h = omega (arith, sym (yes (f x) 0 (suc (firstAt f l)) e refl))
+      go false e h = omega (arith, sym (no (f x) 0 (suc (firstAt f l)) e refl))
+
+  pub first-hit : (l : List A) (i : ℕ) → i < length l → f (getD l i d) ≡ true → firstAt f (drop i l) ≡ 0
+  unfolding firstAt
+  first-hit l i h e = ap (firstAt f) (drop-cons l i d h) ∙ sym (yes (f (getD l i d)) 0 (suc (firstAt f (drop (suc i) l))) e refl)
+
+  pub first-miss : (l : List A) (i : ℕ) → i < length l → f (getD l i d) ≡ false → firstAt f (drop i l) ≡ suc (firstAt f (drop (suc i) l))
+  unfolding firstAt
+  first-miss l i h e = ap (firstAt f) (drop-cons l i d h) ∙ sym (no (f (getD l i d)) 0 (suc (firstAt f (drop (suc i) l))) e refl)
+
+  pub first-none : (l : List A) (i : ℕ) → length l ≤ i → firstAt f (drop i l) ≡ 0
+  unfolding firstAt
+  first-none l i h = ap (firstAt f) (drop-of-length-le l {i = i} h)
+
+-- A LIST CHANGED element by element, in its place: the first i are done
+module _ {A : Type 0} (f : A → A) (d : A) where
+  pub mapped-none : (l : List A) → l ≡ take 0 (map f l) ++ drop 0 l
+  mapped-none l = refl
+
+  pub mapped-more : (l m : List A) (i : ℕ) → m ≡ take i (map f l) ++ drop i l → i < length l
+      → set m i (f (getD l i d)) ≡ take (suc i) (map f l) ++ drop (suc i) l
+  mapped-more l m i e h =
+      let n : i < length (map f l) = omega (arith, length-map l f) in
+      ap (λ (k : List A). set k i (f (getD l i d))) (e ∙ ap (λ (k : List A). take i (map f l) ++ k) (drop-cons l i d h))
+      ∙ set-at (take i (map f l)) (getD l i d) (drop (suc i) l) (f (getD l i d)) i (length-take-le i (map f l) (omega arith))
+      ∙ ap (λ (x : A). take i (map f l) ++ (x ∷ drop (suc i) l)) (sym (List·getD-map f l i d))
+      ∙ sym (append-snoc (take i (map f l)) (getD (map f l) i (f d)) (drop (suc i) l))
+      ∙ ap (λ (k : List A). k ++ drop (suc i) l) (sym (take-suc (map f l) i (f d) n))
+
+  pub mapped-all : (l m : List A) (i : ℕ) → m ≡ take i (map f l) ++ drop i l → length l ≡ i → m ≡ map f l
+  mapped-all l m i e h =
+      e ∙ ap (λ (k : List A). take i (map f l) ++ k) (drop-of-length-le l {i = i} (omega arith))
+      ∙ append-nil (take i (map f l)) ∙ take-all i (map f l) (omega (arith, length-map l f))

@@ -4,14 +4,14 @@ use mathlib.Core.List.{List, [], _∷_, map}
 use Prim.Native.Nat.{ℕ, zero, suc, _+_, _*_, _-_, _/_, _%_}
 use lib.ListN.{length, getD, set}
 use lib.Dec.{eqb, ltb}
-use Rattle.laws.specs.If.{ifLt, ifEq}
+use Rattle.laws.specs.If.{ifLt, ifEq, ifB}
 use Rattle.laws.specs.Lists.{firstAt}
 use Rattle.paper.specs.declared.Component.{Component}
 use Rattle.paper.specs.declared.Invocation.{Invocation}
 use Rattle.paper.specs.declared.Reject.{Reject}
 use Rattle.paper.specs.declared.Control.{Control}
 use Rattle.paper.specs.declared.Acted.{Acted}
-use Rattle.paper.specs.Problems.{senderOfProblem, byLayer, byUser, problem, kindOf, noProblem}
+use Rattle.paper.specs.Problems.{senderOfProblem, byUser, problem, general, kindOf, noProblem}
 use Rattle.paper.specs.Components.{invokeTag, lastTag, errorTag, rejectTag, notLastTag, noID}
 
 -- "Idle, Pending (passed), Sent (transmitted), Wait (may be rejected), Rejecting"
@@ -165,15 +165,19 @@ rejectKind p = ifEq (senderOfProblem p) byUser 11 12
 unfoldable pub rejects : Control → ℕ → ℕ → Acted
 rejects c id p = ifLt (kindOf p) 2 (acted (released c id) (rejectKind p) p) (acted c (rejectKind p) p)
 
--- "A faulty A2, A3, A7 returns its Sent invocation to Idle; a faulty A4 is a local notice, never stored, and returns one to
--- Idle only if ID and tag 81 can be read."
+-- "a faulty A4 is a local notice, never stored, and returns one to Idle only if ID and tag 81 can be read"; the row has our general code
+unfoldable pub faultyReject : Control → ℕ → ℕ → ℕ → Acted
+faultyReject c id p code = ifEq p noProblem (acted c 14 (general code)) (acted (released c id) 14 (general code))
+
+unfoldable pub isAnswer : ℕ → Bool
+isAnswer tag = ifEq tag lastTag true (ifEq tag errorTag true (eqb tag notLastTag))
+
+-- "A faulty A2, A3, A7 returns its Sent invocation to Idle"
 unfoldable pub faults : ℕ → Control → Component → Acted
 faults room c p =
-    ifEq (p .tag) rejectTag (ifEq (p .problem) noProblem (acted c 14 (problem 0 (p .fault))) (acted (released c (p .id)) 14 (problem 0 (p .fault))))
-    (ifEq (p .tag) lastTag (rejected room (released c (p .id)) (p .id) (problem 0 (p .fault)))
-    (ifEq (p .tag) errorTag (rejected room (released c (p .id)) (p .id) (problem 0 (p .fault)))
-    (ifEq (p .tag) notLastTag (rejected room (released c (p .id)) (p .id) (problem 0 (p .fault)))
-    (rejected room c (p .id) (problem 0 (p .fault))))))
+    ifEq (p .tag) rejectTag (faultyReject c (p .id) (p .problem) (p .fault))
+    (ifB (isAnswer (p .tag)) (rejected room (released c (p .id)) (p .id) (general (p .fault)))
+    (rejected room c (p .id) (general (p .fault))))
 
 -- WHAT A COMPONENT DOES
 unfoldable pub act : ℕ → Control → Component → Acted

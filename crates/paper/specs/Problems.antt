@@ -25,6 +25,10 @@ senderOf kind code =
 abbrev pub problem : ℕ → ℕ → ℕ
 problem kind code = kind * 256 + code
 
+-- a general one is its code: its kind is 0
+abbrev pub general : ℕ → ℕ
+general code = code
+
 abbrev pub kindOf : ℕ → ℕ
 kindOf p = p / 256
 

@@ -1,0 +1,40 @@
+use Prim.Native.Nat.{ℕ, _≤_, _<_}
+use lib.ListN.{length, getD, List·getD-eq-default}
+use Rattle.paper.specs.Invocations.{noInvocation}
+use native.Mathlib.Omega.{arith}
+use mathlib.Core.Path.{_≡_, refl, sym, ap, _∙_}
+use Rattle.laws.specs.If.{lt, ge, eq, ne, yes, no}
+use lib.ListN.{length, List·getD-eq-default}
+use borrow.Author.Needs.{needs}
+use Rattle.invocations.proofs.invocation_at.Statement.{statement}
+use Rattle.invocations.proofs.invocation_at.Tie as tie
+use Rattle.invocations.proofs.invocation_at.Reads as reads
+use Rattle.invocations.proofs.invocation_at.Lts as lts
+use Rattle.invocations.proofs.no_invocation.Reads as no-invocation-reads
+
+-- src/lib.rt:74:16
+mul-result : tie.Need-mul-result
+mul-result c = search needs
+
+-- src/lib.rt:74:16
+array-copy-out-result : tie.Need-array-copy-out-result
+array-copy-out-result c = search needs
+
+-- src/lib.rt:74:9
+returns : tie.Need-returns
+returns c = search needs
+
+-- src/lib.rt:76:5
+no-invocation-requires : tie.Need-no-invocation-requires
+no-invocation-requires c κs = search needs
+
+-- src/lib.rt:69:1
+returns-2 : tie.Need-returns-2
+returns-2 c =
+    let b = c .before .before in
+    let e : length (b .args .t1) ≤ b .args .i = omega (arith, b .good .0 .1 .0 .1) in
+    c .no-invocation .ensures ∙ sym (List·getD-eq-default (b .args .t1) noInvocation {n = b .args .i} e)
+
+pub invocation-at-spec : {M : Type 1} → statement M
+invocation-at-spec =
+    tie.close (tie.spec mul-result array-copy-out-result returns no-invocation-requires returns-2)

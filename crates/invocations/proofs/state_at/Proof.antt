@@ -1,0 +1,34 @@
+use native.Mathlib.Omega.{arith}
+use mathlib.Core.Path.{_≡_, refl, sym, ap, _∙_}
+use Rattle.laws.specs.If.{lt, ge, eq, ne, yes, no}
+use lib.ListN.{length, getD, List·getD-eq-default}
+use Prim.Native.Nat.{ℕ, _≤_, _<_}
+use Rattle.paper.specs.Invocations.{noInvocation}
+use Rattle.paper.specs.declared.Invocation.{Invocation}
+use borrow.Author.Needs.{needs}
+use Rattle.invocations.proofs.state_at.Statement.{statement}
+use Rattle.invocations.proofs.state_at.Tie as tie
+use Rattle.invocations.proofs.state_at.Reads as reads
+use Rattle.invocations.proofs.state_at.Lts as lts
+
+-- src/lib.rt:86:17
+mul-v : tie.Need-mul-v
+mul-v c = search needs
+
+-- src/lib.rt:86:17
+array-copy-out-v : tie.Need-array-copy-out-v
+array-copy-out-v c = search needs
+
+-- src/lib.rt:87:9
+returns : tie.Need-returns
+returns c = search needs
+
+-- src/lib.rt:80:1
+returns-2 : tie.Need-returns-2
+returns-2 c =
+    let b = c .before in
+    let e : length (b .args .t1) ≤ b .args .i = omega (arith, b .good .0 .1 .0 .1) in
+    (sym (ap (λ (v : Invocation). v .state) (List·getD-eq-default (b .args .t1) noInvocation {n = b .args .i} e)), λ h. omega arith)
+
+pub state-at-spec : {M : Type 1} → statement M
+state-at-spec = tie.close (tie.spec mul-v array-copy-out-v returns returns-2)

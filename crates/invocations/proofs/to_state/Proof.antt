@@ -1,0 +1,30 @@
+use native.Mathlib.Omega.{arith}
+use mathlib.Core.Path.{_≡_, refl, sym, ap, _∙_}
+use Rattle.laws.specs.If.{lt, ge, eq, ne, yes, no}
+use Rattle.paper.specs.Invocations.{toState, invocationOf}
+use borrow.Author.Needs.{needs}
+use Rattle.invocations.proofs.to_state.Statement.{statement}
+use Rattle.invocations.proofs.to_state.Tie as tie
+use Rattle.invocations.proofs.to_state.Reads as reads
+use Rattle.invocations.proofs.to_state.Lts as lts
+use Rattle.invocations.proofs.put_invocation.Reads as put-invocation-reads
+
+-- src/lib.rt:111:13
+mul-v : tie.Need-mul-v
+mul-v c = search needs
+
+-- src/lib.rt:111:13
+array-copy-out-v : tie.Need-array-copy-out-v
+array-copy-out-v c = search needs
+
+-- src/lib.rt:118:5
+put-invocation-requires : tie.Need-put-invocation-requires
+put-invocation-requires c κs = search needs
+
+-- src/lib.rt:106:1
+returns : tie.Need-returns
+unfolding toState invocationOf
+returns c = cc
+
+pub to-state-spec : {M : Type 1} → statement M
+to-state-spec = tie.close (tie.spec mul-v array-copy-out-v put-invocation-requires returns)

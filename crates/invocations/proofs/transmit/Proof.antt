@@ -1,0 +1,32 @@
+use native.Mathlib.Omega.{arith}
+use mathlib.Core.Path.{_≡_, refl, sym, ap, _∙_}
+use Rattle.laws.specs.If.{lt, ge, eq, ne, yes, no}
+use Rattle.paper.specs.Invocations.{transmitted}
+use borrow.Author.Needs.{needs}
+use Rattle.invocations.proofs.transmit.Statement.{statement}
+use Rattle.invocations.proofs.transmit.Tie as tie
+use Rattle.invocations.proofs.transmit.Reads as reads
+use Rattle.invocations.proofs.transmit.Lts as lts
+use Rattle.invocations.proofs.no_invocation.Reads as no-invocation-reads
+
+-- src/lib.rt:454:9
+returns : tie.Need-returns
+unfolding transmitted
+returns c = eq _ _ _ _ (omega arith) refl
+
+-- src/lib.rt:462:9
+no-invocation-requires : tie.Need-no-invocation-requires
+no-invocation-requires c κs = search needs
+
+-- src/lib.rt:462:9
+returns-2 : tie.Need-returns-2
+unfolding transmitted
+returns-2 c = ne _ _ _ _ (λ h. omega arith) (eq _ _ _ _ (omega arith) (c .no-invocation .ensures))
+
+-- src/lib.rt:450:1
+returns-3 : tie.Need-returns-3
+unfolding transmitted
+returns-3 c = ne _ _ _ _ (λ h. omega arith) (ne _ _ _ _ (λ h. omega arith) refl)
+
+pub transmit-spec : {M : Type 1} → statement M
+transmit-spec = tie.close (tie.spec returns no-invocation-requires returns-2 returns-3)
