@@ -54,19 +54,20 @@ loop-less c = search needs
 
 -- src/lib.rt:473:5
 loop-again : tie.Need-loop-again Inv-loop μ-loop
-loop-again c = 
+loop-again c =
     let b = c .before .before .before in
     let l : List Invocation = b .before .args .t1 in
     let n : length l ≡ 8 = b .before .good .0 .1 .0 .1 in
-    let one : suc (b .loop .i) ≡ b .loop .i + 1 = sym (add-one (b .loop .i)) in
-    (omega arith,
-    ap (set (b .loop .m) (b .loop .i)) (c .transmit .ensures)
-    ∙ mapped-more transmitted noInvocation l (b .loop .m) (b .loop .i) (b .loop .inv .1) (omega arith)
-    ∙ ap (λ (k : ℕ). take k (map transmitted l) ++ drop k l) one)
+    let one : suc (b .loop .i) ≡ b .loop .i + 1 = sym (add-one (b .loop .i)) in (
+      omega arith,
+      ap (set (b .loop .m) (b .loop .i)) (c .transmit .ensures)
+          ∙ mapped-more transmitted noInvocation l (b .loop .m) (b .loop .i) (b .loop .inv .1) (omega arith)
+          ∙ ap (λ (k : ℕ). take k (map transmitted l) ++ drop k l) one,
+    )
 
 -- src/lib.rt:468:1
 returns : tie.Need-returns Inv-loop μ-loop
-returns c = 
+returns c =
     let b = c .before in
     let n : length (b .before .args .t1) ≡ 8 = b .before .good .0 .1 .0 .1 in
     mapped-all transmitted noInvocation (b .before .args .t1) (b .loop .m) (b .loop .i) (b .loop .inv .1) (omega arith)

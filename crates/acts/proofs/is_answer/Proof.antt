@@ -1,0 +1,26 @@
+use native.Mathlib.Omega.{arith}
+use mathlib.Core.Path.{_≡_, refl, sym, ap, _∙_}
+use Rattle.laws.specs.If.{lt, ge, eq, ne, yes, no}
+use Rattle.paper.specs.Invocations.{isAnswer}
+use Rattle.acts.proofs.is_answer.Statement.{statement}
+use Rattle.acts.proofs.is_answer.Tie as tie
+use Rattle.acts.proofs.is_answer.Reads as reads
+use Rattle.acts.proofs.is_answer.Lts as lts
+
+-- src/lib.rt:389:9
+returns : tie.Need-returns
+unfolding isAnswer
+returns c = eq _ _ _ _ (omega arith) refl
+
+-- src/lib.rt:392:9
+returns-2 : tie.Need-returns-2
+unfolding isAnswer
+returns-2 c = ne _ _ _ _ (λ h. omega arith) (eq _ _ _ _ (omega arith) refl)
+
+-- src/lib.rt:385:1
+returns-3 : tie.Need-returns-3
+unfolding isAnswer
+returns-3 c = ne _ _ _ _ (λ h. omega arith) (ne _ _ _ _ (λ h. omega arith) refl)
+
+pub is-answer-spec : {M : Type 1} → statement M
+is-answer-spec = tie.close (tie.spec returns returns-2 returns-3)
