@@ -18,6 +18,7 @@ use Rattle.paper.specs.declared.Reading.the-variants.{Ends, Fault}
 use Rattle.paper.specs.declared.Frame.{Frame}
 use Rattle.paper.specs.Elements.{tagMore, tagEnd, lengthAt, constructor, headBy, headAt, ended, endAt, onwards, orNext, contents, byHead, element, frameTo, frameBy, frameAt}
 use Rattle.elements.specs.Bounds.{LengthIn, HeadIn, ReadingIn, ContentsIn, more-in, tag-in, length-in, head-in, contents-in, element-in, opens-in}
+use Rattle.elements.specs.Steps.{at-end, next}
 
 -- the octets from at up to e stand k further in t
 abbrev pub Same : List ℕ → List ℕ → ℕ → ℕ → ℕ → Type 0
@@ -161,3 +162,139 @@ module _ (s t : List ℕ) (k lim lim′ at p end : ℕ) (ep : p ≡ k + at) (fit
           (λ c e. by-eq _ _ _ _ e
           (λ d e. leaf e (λ g. ge _ _ _ _ (omega arith) (eq _ _ _ _ d (ap (Holds (k + b)) q)) ∙ there (Given b n) some el (omega arith)))
           (λ d e. leaf e (λ g. ge _ _ _ _ (omega arith) (ne _ _ _ _ d (ap Whole q)) ∙ there (Given b n) some el (omega arith))))
+
+-- ---- contents and elements
+ends-is : (a b : ℕ) → Ends a ≡ Ends b → a ≡ b
+ends-is a b e = cc
+
+ends-never : {P : Type 0} (a b : ℕ) → Ends a ≡ Fault b → P
+ends-never a b e = absurd (let z : _≡_ {A = ℕ} 0 1 = cc in omega arith)
+
+-- the same either way
+either-lt : {A : Type 0} {r : A} (a b : ℕ) (x y : A) → r ≡ x → r ≡ y → r ≡ ifLt a b x y
+either-lt a b x y p q = by-lt {r = ifLt a b x y} a b x y refl (λ h e. p ∙ sym e) (λ h e. q ∙ sym e)
+
+-- an element's first octet is no 0
+pub first-some : (s : List ℕ) (d lim at e : ℕ) → Ends e ≡ element s d lim at → getD s at 0 ≡ 0 → ⊥
+unfolding element headAt tagEnd
+first-some s zero lim at e q z = ends-never e at q
+first-some s (suc d) lim at e q z =
+    let tag : 0 ≡ tagEnd s lim at = either-lt _ _ _ _ (eq _ _ _ _ z refl) refl in
+    let head : Bad ≡ headAt s lim at = eq _ _ _ _ (sym tag) refl in
+    ends-never e at (q ∙ ap (λ (g : Head). byHead g lim at (λ o e b. contents (element s d) s o e at (suc e) b)) (sym head))
+
+not-ended : (t : List ℕ) (lim p : ℕ) → (getD t p 0 ≡ 0 → ⊥) → false ≡ ended t true lim p
+unfolding ended
+not-ended t lim p some = either-lt _ _ _ _ (ne _ _ _ _ some refl) refl
+
+module _ (s t : List ℕ) (k lim lim′ at p e : ℕ) (ep : p ≡ k + at) (fits : k + e ≤ lim′) (same : Same s t k at e) where
+  -- contents that end in s end in t, and those that go on go on
+  still-ended : (o : Bool) → (o ≡ false → lim′ ≡ k + lim) → e ≡ endAt o at → true ≡ ended s o lim at → true ≡ ended t o lim′ p
+  unfolding ended
+  still-ended true fit h q =
+      let a = was-lt _ _ _ _ q true-false in
+      let b = was-eq _ _ _ _ (a .1) true-false in
+      let x = octet s t k at e at p same (omega arith) (omega arith) ep in
+      let y = octet s t k at e (at + 1) (p + 1) same (omega arith) (omega arith) (omega arith) in
+      lt _ _ _ _ (omega arith) (eq _ _ _ _ (omega arith) (b .1 ∙ ap (λ (j : ℕ). eqb j 0) (sym y)))
+  still-ended false fit h q = let a = eqb-true at lim (sym q) in let f = fit refl in sym (eq-eqb p lim′ (omega arith))
+
+  still-on : (o : Bool) → (o ≡ false → lim′ ≡ k + lim) → at < e → (getD s at 0 ≡ 0 → ⊥) → false ≡ ended s o lim at → false ≡ ended t o lim′ p
+  unfolding ended
+  still-on true fit h some q = not-ended t lim′ p (λ z. some (sym (octet s t k at e at p same (omega arith) h ep) ∙ z))
+  still-on false fit h some q = let f = fit refl in sym (ne-eqb p lim′ (λ z. eqb-false at lim (sym q) (omega arith)))
+
+contents-by : (o : Bool) (lim outer at e : ℕ) → ContentsIn o lim outer at (Ends e) → at ≤ e
+contents-by true lim outer at e i = omega arith
+contents-by false lim outer at e i = omega arith
+
+-- an element of at most d depths in s is one of at most d′ in t
+abbrev pub Carries : List ℕ → List ℕ → ℕ → ℕ → ℕ → Type 0
+Carries s t k d d′ =
+    (lim lim′ at p e : ℕ) → Ends e ≡ element s d lim at → p ≡ k + at → k + e ≤ lim′ → Same s t k at e → Ends (k + e) ≡ element t d′ lim′ p
+
+module _ (s t : List ℕ) (k d d′ : ℕ) (carry : Carries s t k d d′) (o : Bool) (lim lim′ outer outer′ e : ℕ) (fit : o ≡ false → lim′ ≡ k + lim) (fits : k + e ≤ lim′) where
+  pub contents-carry : (n at p n′ : ℕ) → Ends e ≡ contents (element s d) s o lim outer n at → outer < at → at ≤ lim → p ≡ k + at → Same s t k at e → lim′ - p < n′
+      → Ends (k + e) ≡ contents (element t d′) t o lim′ outer′ n′ p
+  unfolding contents
+  contents-carry zero at p n′ q h l ep same enough = ends-never e outer q
+  contents-carry (suc n) at p n′ q h l ep same enough = go (contents-carry n) (ended s o lim at) refl q
+    where
+      Rest : Type 0
+      Rest = (at p n′ : ℕ) → Ends e ≡ contents (element s d) s o lim outer n at → outer < at → at ≤ lim → p ≡ k + at → Same s t k at e → lim′ - p < n′
+          → Ends (k + e) ≡ contents (element t d′) t o lim′ outer′ n′ p
+
+      end : (o : Bool) → e ≡ endAt o at → Ends (k + e) ≡ Ends (endAt o p)
+      end true h = let z : k + e ≡ p + 2 = omega arith in ap Ends z
+      end false h = let z : k + e ≡ p = omega arith in ap Ends z
+
+      on : Rest → (x : Reading) → x ≡ element s d lim at → false ≡ ended s o lim at → Ends e ≡ onwards x (λ e. contents (element s d) s o lim outer n e)
+          → Ends (k + e) ≡ contents (element t d′) t o lim′ outer′ n′ p
+      on rest (Fault f) i te q = ends-never e f q
+      on rest (Ends x) i te q =
+          let w = element-in s d lim at (Ends x) i in
+          let v = contents-by o lim outer x e (contents-in (element s d) s (element-in s d) o lim outer n x (Ends e) (omega arith) (omega arith) q) in
+          next (element t d′) t o lim′ outer′ n′ p enough (Ends (k + x)) (Ends (k + e))
+          (still-on s t k lim lim′ at p e ep fits same o fit (omega arith) (first-some s d lim at x i) te) (λ z. omega arith)
+          (carry lim lim′ at p x i ep (omega arith) (λ j a b. same j a (omega arith)))
+          (rest x (k + x) (n′ - 1) q (omega arith) (omega arith) refl (λ j a b. same j (omega arith) b) (omega arith))
+
+      go : Rest → (b : Bool) → b ≡ ended s o lim at → Ends e ≡ orNext b (endAt o at) (λ _. ifEq at lim (Fault outer) (onwards (element s d lim at) (λ e. contents (element s d) s o lim outer n e)))
+          → Ends (k + e) ≡ contents (element t d′) t o lim′ outer′ n′ p
+      go rest true te q =
+          let z = ends-is e (endAt o at) q in
+          end o z ∙ at-end (element t d′) t o lim′ outer′ n′ p enough o refl (still-ended s t k lim lim′ at p e ep fits same o fit z te)
+      go rest false te q = by-eq _ _ _ _ q (λ a q. ends-never e outer q) (λ a q. on rest (element s d lim at) refl te q)
+
+pub element-carry : (s t : List ℕ) (k d d′ : ℕ) → d ≤ d′ → Carries s t k d d′
+unfolding element
+element-carry s t k zero d′ m lim lim′ at p e q ep fits same = ends-never e at q
+element-carry s t k (suc d) zero m lim lim′ at p e q ep fits same = absurd (omega arith)
+element-carry s t k (suc d) (suc d′) m lim lim′ at p e q ep fits same =
+    go (element-carry s t k d d′ (omega arith)) (headAt s lim at) refl (head-in s lim at (headAt s lim at) refl) q
+  where
+    in-t : (g : Head) → g ≡ headAt s lim at → HeadBy e g → byHead (upHead k g) lim′ p (λ o e b. contents (element t d′) t o e p (suc e) b) ≡ element t (suc d′) lim′ p
+    in-t g i b = ap (λ (g : Head). byHead g lim′ p (λ o e b. contents (element t d′) t o e p (suc e) b)) (head-carry s t k lim lim′ at p e ep fits same g i b)
+
+    go : Carries s t k d d′ → (g : Head) → g ≡ headAt s lim at → HeadIn at lim g → Ends e ≡ byHead g lim at (λ o e b. contents (element s d) s o e at (suc e) b)
+        → Ends (k + e) ≡ element t (suc d′) lim′ p
+    go carry Bad i w q = ends-never e at q
+    go carry (Whole c) i w q = let z = ends-is e c q in ap (λ (j : ℕ). Ends (k + j)) z ∙ in-t (Whole c) i (sym z)
+    go carry (Holds b c) i w q =
+        let v = contents-in (element s d) s (element-in s d) false c at (suc c) b (Ends e) (omega arith) (omega arith) q in
+        let z = v .2 refl in
+        contents-carry s t k d d′ carry false c (k + c) at p e (λ _. refl) (omega arith) (suc c) b (k + b) (suc (k + c)) q (omega arith) (omega arith) refl
+        (λ j a u. same j (omega arith) u) (omega arith)
+        ∙ in-t (Holds b c) i (sym z)
+    go carry (Opens b) i w q =
+        let v = contents-in (element s d) s (element-in s d) true lim at (suc lim) b (Ends e) (omega arith) (omega arith) q in
+        contents-carry s t k d d′ carry true lim lim′ at p e (λ z. absurd (true-false z)) fits (suc lim) b (k + b) (suc lim′) q (omega arith) (omega arith) refl
+        (λ j a u. same j (omega arith) u) (omega arith)
+        ∙ in-t (Opens b) i (omega arith)
+
+-- ---- a frame
+abbrev pub upFrame : ℕ → Frame → Frame
+upFrame k f = record { from = k + f .from; to = k + f .to; stop = k + f .stop }
+
+pub frame-carry : (s t : List ℕ) (k d d′ lim lim′ at p : ℕ) → d ≤ d′ → (f : Frame) → f ≡ frameAt s d lim at → 0 < f .stop → p ≡ k + at → k + f .stop ≤ lim′ → Same s t k at (f .stop)
+    → upFrame k f ≡ frameAt t d′ lim′ p
+unfolding frameAt
+frame-carry s t k d d′ lim lim′ at p m f q some ep fits same = go (headAt s lim at) refl (head-in s lim at (headAt s lim at) refl) q
+  where
+    in-t : (g : Head) → g ≡ headAt s lim at → HeadBy (f .stop) g → frameBy (upHead k g) (λ _. element t d′ lim′ p) ≡ frameAt t d′ lim′ p
+    in-t g i b = ap (λ (g : Head). frameBy g (λ _. element t d′ lim′ p)) (head-carry s t k lim lim′ at p (f .stop) ep fits same g i b)
+
+    to : (b : ℕ) (r : Reading) → Opens b ≡ headAt s lim at → r ≡ element s d lim at → f ≡ frameTo b r → upFrame k f ≡ frameAt t d′ lim′ p
+    to b (Fault x) i j q = let z = ap (λ (f : Frame). f .stop) q in absurd (omega arith)
+    to b (Ends x) i j q =
+        let z : f .stop ≡ x = ap (λ (f : Frame). f .stop) q in
+        let w = opens-in s d lim at b (Ends x) i j x refl in
+        let y : k + (x - 2) ≡ k + x - 2 = omega arith in
+        let c = element-carry s t k d d′ m lim lim′ at p x j ep (omega arith) (λ i l u. same i l (omega arith)) in
+        ap (upFrame k) q ∙ ap (λ (n : ℕ). record { from = k + b; to = n; stop = k + x }) y ∙ ap (frameTo (k + b)) c ∙ in-t (Opens b) i (omega arith)
+
+    go : (g : Head) → g ≡ headAt s lim at → HeadIn at lim g → f ≡ frameBy g (λ _. element s d lim at) → upFrame k f ≡ frameAt t d′ lim′ p
+    go Bad i w q = let z = ap (λ (f : Frame). f .stop) q in absurd (omega arith)
+    go (Whole c) i w q = ap (upFrame k) q ∙ in-t (Whole c) i (sym (ap (λ (f : Frame). f .stop) q))
+    go (Holds b c) i w q = ap (upFrame k) q ∙ in-t (Holds b c) i (sym (ap (λ (f : Frame). f .stop) q))
+    go (Opens b) i w q = to b (element s d lim at) i refl q

@@ -1,4 +1,4 @@
-use Rattle.elements.proofs.Steps.{by-head, no-depth, element-told, From, at-end, no-more, next, room}
+use Rattle.elements.specs.Steps.{by-head, no-depth, element-told, From, at-end, no-more, next, room}
 use Rattle.elements.specs.Bounds.{HeadIn, ReadingIn}
 use Rattle.paper.specs.Elements.{onwards, contents, element}
 use Rattle.paper.specs.declared.Reading.{Reading}

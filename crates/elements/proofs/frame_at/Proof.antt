@@ -1,4 +1,4 @@
-use Rattle.elements.proofs.Steps.{frame-told}
+use Rattle.elements.specs.Steps.{frame-told}
 use Rattle.elements.specs.Bounds.{ReadingIn}
 use Rattle.paper.specs.Elements.{frameTo}
 use mathlib.Core.Path.{refl, sym, _∙_, ap, subst}

@@ -1,4 +1,4 @@
-use Rattle.elements.proofs.Steps.{no-tag, after-tag, head-told}
+use Rattle.elements.specs.Steps.{no-tag, after-tag, head-told}
 use Rattle.elements.specs.Bounds.{LengthIn}
 use Rattle.paper.specs.Elements.{headBy}
 use Rattle.laws.specs.If.{lt, ge, eq, ne}

@@ -1,4 +1,4 @@
-use Rattle.elements.proofs.Steps.{tag-on, tag-over}
+use Rattle.elements.specs.Steps.{tag-on, tag-over}
 use Rattle.paper.specs.Elements.{tagMore}
 use Rattle.laws.specs.If.{lt, ge}
 use Prim.Native.Nat.{_≤_}
