@@ -1,0 +1,29 @@
+use Rattle.paper.specs.Rows.{signed}
+use Rattle.laws.specs.Picks.{picks}
+use borrow.Author.Needs.{needs}
+use Rattle.rows.proofs.signed.Statement.{statement}
+use Rattle.rows.proofs.signed.Tie as tie
+use Rattle.rows.proofs.signed.Reads as reads
+use Rattle.rows.proofs.signed.Lts as lts
+
+-- src/lib.rt:15:16
+add-result : tie.Need-add-result
+add-result c = search needs
+
+-- src/lib.rt:15:9
+returns : tie.Need-returns
+unfolding signed
+returns c = search picks
+
+-- src/lib.rt:18:9
+returns-2 : tie.Need-returns-2
+unfolding signed
+returns-2 c = search picks
+
+-- src/lib.rt:11:1
+returns-3 : tie.Need-returns-3
+unfolding signed
+returns-3 c = search picks
+
+pub signed-spec : {M : Type 1} → statement M
+signed-spec = tie.close (tie.spec add-result returns returns-2 returns-3)
