@@ -1,0 +1,4 @@
+pub mod Zeros
+pub mod Fine
+pub mod Kept
+pub mod Octets
