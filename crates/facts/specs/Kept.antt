@@ -227,7 +227,7 @@ rejects-kept (suc n) (r ∷ l) f =
 -- a problem that the sub-layer sends is small
 pub layer-small : (kind code : ℕ) → senderOf kind code ≡ byLayer → (kind < 4) × (code < 6)
 unfolding senderOf
-layer-small kind code e = by-eq _ _ _ _ (sym e) zero-kind (λ n q. by-eq _ _ _ _ q one-kind 
+layer-small kind code e = by-eq _ _ _ _ (sym e) zero-kind (λ n q. by-eq _ _ _ _ q one-kind
     (λ n q. by-eq _ _ _ _ q (last-kinds 2 3 (omega arith)) (λ n q. by-eq _ _ _ _ q (last-kinds 3 5 (omega arith)) (λ n q. absurd (omega arith)))))
   where
     zero-kind : kind ≡ 0 → 0 ≡ ifLt code 3 byLayer byNobody → (kind < 4) × (code < 6)

@@ -4,3 +4,7 @@ pub mod Kept
 pub mod Octets
 pub mod Slots
 pub mod Whole
+pub mod Ready
+pub mod Counts
+pub mod Stores
+pub mod Owners
