@@ -1,0 +1,33 @@
+use mathlib.Core.List.{List}
+use Prim.Native.Nat.{ℕ}
+use native.Mathlib.Omega.{arith}
+use Rattle.freemap.proofs.Laws.{two-words}
+use borrow.Author.Needs.{needs}
+use Rattle.freemap.proofs.free_count.Statement.{statement}
+use Rattle.freemap.proofs.free_count.Tie as tie
+use Rattle.freemap.proofs.free_count.Reads as reads
+use Rattle.freemap.proofs.free_count.Lts as lts
+use Rattle.freemap.proofs.count_of.Reads as count-of-reads
+use Rattle.freemap.proofs.word.Reads as word-reads
+
+-- src/lib.rt:71:14
+word-requires : tie.Need-word-requires
+word-requires c κs = search needs
+
+-- src/lib.rt:71:26
+word-requires-2 : tie.Need-word-requires-2
+word-requires-2 c κs = search needs
+
+-- src/lib.rt:71:5
+count-of-requires : tie.Need-count-of-requires
+count-of-requires c κs = search needs
+
+-- src/lib.rt:67:1
+returns : tie.Need-returns
+returns c = let s = c .before .before .before in
+    let t : List ℕ = s .before .args .t .now in
+    let w = two-words t (λ i. omega (arith, s .shared-slice-known .given i)) (omega arith) in
+    ((cc w), omega (arith, c .count-of .ensures .1))
+
+pub free-count-spec : {M : Type 1} → statement M
+free-count-spec = tie.close (tie.spec word-requires word-requires-2 count-of-requires returns)

@@ -1,0 +1,22 @@
+use native.Mathlib.Omega.{arith}
+use lib.Count.{trailing-le}
+use Rattle.laws.specs.Digits.{lowest-two, lowest-high}
+use Rattle.freemap.proofs.lowest_of.Statement.{statement}
+use Rattle.freemap.proofs.lowest_of.Tie as tie
+use Rattle.freemap.proofs.lowest_of.Reads as reads
+use Rattle.freemap.proofs.lowest_of.Lts as lts
+
+-- src/lib.rt:47:9
+returns : tie.Need-returns
+returns c = (lowest-two (c .before .args .low) (c .before .args .high) (omega arith) (omega arith), omega (arith, trailing-le 64 (c .before .args .low)))
+
+-- src/lib.rt:49:12
+add-result : tie.Need-add-result
+add-result c = omega (arith, trailing-le 64 (c .before .args .high))
+
+-- src/lib.rt:49:5
+returns-2 : tie.Need-returns-2
+returns-2 c = (lowest-high (c .before .args .low) (c .before .args .high) (omega arith), omega (arith, trailing-le 64 (c .before .args .high)))
+
+pub lowest-of-spec : {M : Type 1} → statement M
+lowest-of-spec = tie.close (tie.spec returns add-result returns-2)
