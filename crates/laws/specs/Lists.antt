@@ -7,15 +7,9 @@ use native.Mathlib.Omega.{arith}
 use native.Mathlib.Nat.{not-suc-le-zero, le-of-suc-le-suc, zero-add, suc-add, add-suc, add-zero}
 use lib.Dec.{eqb}
 use borrow.Author.Tests.{eqb-true, eqb-false}
-<<<<<<< HEAD
 use lib.ListN.{length, getD, set, take, drop, length-set, length-map, drop-of-length-le, List·getD-map}
 use lib.Seq.{ext-getD, getD-set-same, getD-set-other, drop-cons, take-suc, take-all, set-at, append-snoc, length-take-le}
 use Rattle.laws.specs.If.{ifEq, ifB, yes, no}
-=======
-use lib.ListN.{length, getD, set, take, drop, length-set}
-use lib.Seq.{ext-getD, getD-set-same, getD-set-other, drop-cons}
-use Rattle.laws.specs.If.{ifEq, ifB}
->>>>>>> layout
 use Rattle.laws.specs.Sums.{sum, sum-ext, sumBy}
 
 -- n octets: those of l, then zeros
@@ -99,7 +93,6 @@ sumBy-tab g (suc n) i f =
 pub sum-tab : {A : Type 0} (g : A → ℕ) (n : ℕ) (f : ℕ → A) → sumBy g (tab n 0 f) ≡ sum (λ j. g (f j)) n
 sum-tab g n f = sumBy-tab g n 0 f ∙ sum-ext (λ j. g (f (0 + j))) (λ j. g (f j)) n (λ k h. ap (λ (x : ℕ). g (f x)) (zero-add k))
 
-<<<<<<< HEAD
 -- THE FIRST THAT PASSES, found by a loop: what is found from i on
 module _ {A : Type 0} (f : A → Bool) (d : A) where
   pub first-le : (l : List A) → firstAt f l ≤ length l
@@ -142,7 +135,7 @@ module _ {A : Type 0} (f : A → A) (d : A) where
   mapped-all l m i e h =
       e ∙ ap (λ (k : List A). take i (map f l) ++ k) (drop-of-length-le l {i = i} (omega arith))
       ∙ append-nil (take i (map f l)) ∙ take-all i (map f l) (omega (arith, length-map l f))
-=======
+
 -- n octets from a on, one by one
 abbrev pub span : ℕ → ℕ → List ℕ → List ℕ
 span zero a l = []
@@ -159,4 +152,3 @@ span-drop zero a l h = ap (λ (k : ℕ). drop k l) (add-zero a)
 span-drop (suc n) a l h =
     ap (λ (k : ℕ). getD l a 0 ∷ (span n (suc a) l ++ drop k l)) (add-suc a n ∙ sym (suc-add a n))
     ∙ ap (λ (r : List ℕ). getD l a 0 ∷ r) (span-drop n (suc a) l (omega arith)) ∙ sym (drop-cons l a 0 (omega arith))
->>>>>>> layout

@@ -2,7 +2,6 @@
 use paper::Control;
 use paper::Invocation;
 use paper::Reject;
-
 ghost use mathlib.Core.Path.{_≡_};
 ghost use mathlib.Core.List.{[], _++_};
 ghost use Prim.Native.Nat.{ℕ, _+_, _*_, _-_, _/_, _%_, _≤_, _<_};
