@@ -116,6 +116,33 @@ module _ {A : Type 0} (f : A → Bool) (d : A) where
   unfolding firstAt
   first-none l i h = ap (firstAt f) (drop-of-length-le l {i = i} h)
 
+  -- what is found passes, and nothing before it
+  pub first-at : (l : List A) → firstAt f l < length l → f (getD l (firstAt f l) d) ≡ true
+  unfolding firstAt
+  first-at [] h = absurd (omega arith)
+  first-at (x ∷ l) h = go (f x) refl (first-at l) h
+    where
+      go : (b : Bool) → f x ≡ b → (firstAt f l < length l → f (getD l (firstAt f l) d) ≡ true) → ifB (f x) 0 (suc (firstAt f l)) < suc (length l)
+          → f (getD (x ∷ l) (ifB (f x) 0 (suc (firstAt f l))) d) ≡ true
+      go true e ih h = ap (λ (k : ℕ). f (getD (x ∷ l) k d)) (sym (yes (f x) 0 (suc (firstAt f l)) e refl)) ∙ e
+      go false e ih h =
+          let z : ifB (f x) 0 (suc (firstAt f l)) ≡ suc (firstAt f l) = sym (no (f x) 0 (suc (firstAt f l)) e refl) in
+          ap (λ (k : ℕ). f (getD (x ∷ l) k d)) z ∙ ih (omega (arith, z))
+
+  pub first-before : (l : List A) (j : ℕ) → j < firstAt f l → f (getD l j d) ≡ false
+  unfolding firstAt
+  first-before [] j h = absurd (omega arith)
+  first-before (x ∷ l) zero h = go (f x) refl h
+    where
+      go : (b : Bool) → f x ≡ b → 0 < ifB (f x) 0 (suc (firstAt f l)) → f x ≡ false
+      go true e h = absurd (omega (arith, yes {r = 0} (f x) 0 (suc (firstAt f l)) e refl))
+      go false e h = e
+  first-before (x ∷ l) (suc j) h = go (f x) refl (first-before l j) h
+    where
+      go : (b : Bool) → f x ≡ b → (j < firstAt f l → f (getD l j d) ≡ false) → suc j < ifB (f x) 0 (suc (firstAt f l)) → f (getD l j d) ≡ false
+      go true e ih h = absurd (omega (arith, yes {r = 0} (f x) 0 (suc (firstAt f l)) e refl))
+      go false e ih h = ih (omega (arith, no {r = suc (firstAt f l)} (f x) 0 (suc (firstAt f l)) e refl))
+
 -- A LIST CHANGED element by element, in its place: the first i are done
 module _ {A : Type 0} (f : A → A) (d : A) where
   pub mapped-none : (l : List A) → l ≡ take 0 (map f l) ++ drop 0 l
