@@ -1,7 +1,6 @@
 // What a received component does to a dialogue's control record (01, "Invocation states").
 ghost use mathlib.Core.Path.{_≡_};
 ghost use Prim.Native.Nat.{ℕ, _<_, _≤_};
-ghost use Rattle.paper.specs.Problems.{senderOfProblem};
 ghost use Rattle.paper.specs.Invocations.{slotOf, notLastShown, rejected, takes, answerKind, answerProblem, answersSent, answers, invokes, released, rejectKind, rejects, faultyReject, isAnswer, faults, act};
 use paper::Acted;
 use paper::Component;
@@ -185,11 +184,11 @@ fn release(c: Control, id: u32) -> Control
     c
 }
 
-// U-REJECT or R-REJECT, of a problem with its sender.
-fn reject_kind(problem: u32, sender: u8) -> u32
-    requires { ⌜ sender ≡ senderOfProblem problem ⌝ }
+// U-REJECT or R-REJECT, by who sends the problem.
+fn reject_kind(problem: u32) -> u32
     ensures { λ r. ⌜ r ≡ rejectKind problem ⌝ }
 {
+    let sender = problems::sender(problem / 256, problem % 256);
     if sender == 1 {
         return 11;
     }
@@ -197,11 +196,10 @@ fn reject_kind(problem: u32, sender: u8) -> u32
 }
 
 // A reject received.
-fn reject(c: Control, id: u32, problem: u32, sender: u8) -> Acted
-    requires { ⌜ sender ≡ senderOfProblem problem ⌝ }
+fn reject(c: Control, id: u32, problem: u32) -> Acted
     ensures { λ r. ⌜ r ≡ rejects c id problem ⌝ }
 {
-    let kind = reject_kind(problem, sender);
+    let kind = reject_kind(problem);
     if problem / 256 < 2 {
         let d = release(c, id);
         return Acted {
@@ -264,9 +262,9 @@ fn fault(c: Control, p: Component, room: u8) -> Acted
     reject_by(c, p.id, code, room)
 }
 
-// What a component does. sender: who sends its problem, where it is a sound reject.
-pub fn act(c: Control, p: Component, sender: u8, room: u8) -> Acted
-    requires { ⌜ (room ≤ 8) × (sender ≡ senderOfProblem (p .problem)) ⌝ }
+// WHAT A COMPONENT DOES; room: how many rejects may wait (8, or 0 where none is stored).
+pub fn act(c: Control, p: Component, room: u8) -> Acted
+    requires { ⌜ room ≤ 8 ⌝ }
     ensures { λ r. ⌜ r ≡ act room c p ⌝ }
 {
     if p.fault != 3 {
@@ -276,7 +274,7 @@ pub fn act(c: Control, p: Component, sender: u8, room: u8) -> Acted
         return invoke(c, p.id, p.linked, room);
     }
     if p.tag == 0xA4 {
-        return reject(c, p.id, p.problem, sender);
+        return reject(c, p.id, p.problem);
     }
     answer(c, p.tag, p.id, room)
 }
