@@ -123,15 +123,24 @@ module _ (s : List ℕ) (lim at t b n : ℕ) (short : ShortTag t) (octet : getD 
   unfolding headBy
   holds-head k = ge _ _ _ _ (omega arith) (eq _ _ _ _ k refl) ∙ by-given
 
+-- a primitive of few octets
+pub short-element : (s : List ℕ) (lim at t n : ℕ) → ShortTag t → getD s at 0 ≡ t → getD s (at + 1) 0 ≡ n → n < 128 → at + 1 + 1 + n ≤ lim
+    → (d : ℕ) → (d ≡ 0 → ⊥) → constructor t ≡ 0 → Ends (at + 1 + 1 + n) ≡ element s d lim at
+unfolding lengthAt
+short-element s lim at t n short octet count few room d deep k =
+    by-head s d lim at (Whole (at + 1 + 1 + n)) deep
+    (whole-head s lim at t (at + 1 + 1) n short octet (omega arith)
+    (lt _ _ _ _ (omega arith) (lt _ _ _ _ (omega arith) (ap (Given (at + 1 + 1)) (sym count)))) room k)
+
 -- elements one after another, from a position up to e
 pub data Parts (s : List ℕ) (d e : ℕ) : ℕ → Type 0 where
-  done : Parts s d e e
+  done : {p : ℕ} → p ≡ e → Parts s d e p
   more : {p q : ℕ} → Ends q ≡ element s d e p → Parts s d e q → Parts s d e p
 
 -- are contents
 pub parts-back : {s : List ℕ} {d e p : ℕ} → Parts s d e p → (outer n : ℕ) → e - p < n → Ends e ≡ contents (element s d) s false e outer n p
 unfolding ended
-parts-back {s} {d} {e} done outer n h = at-end (element s d) s false e outer n e h false refl (sym (eq-eqb e e refl))
+parts-back {s} {d} {e} {p} (done z) outer n h = ap Ends (sym z) ∙ at-end (element s d) s false e outer n p h false refl (sym (eq-eqb p e z))
 parts-back {s} {d} {e} {p} (more {q = q} c r) outer n h =
     let w = element-in s d e p (Ends q) c in
     next (element s d) s false e outer n p h (Ends q) (Ends e) (sym (ne-eqb p e (λ z. omega arith))) (λ z. omega arith) c (parts-back r outer (n - 1) (omega arith))
@@ -143,28 +152,29 @@ begins at n = at + 1 + length (lengthOctets n)
 abbrev pub ends : ℕ → ℕ → ℕ
 ends at n = begins at n + n
 
-module _ (s : List ℕ) (lim at t : ℕ) (c : List ℕ) (short : ShortTag t) (fits : length c < 65536) (has : Has s at (tlv t c)) (room : ends at (length c) ≤ lim) where
+pub record Stands (s : List ℕ) (lim at t : ℕ) (c : List ℕ) : Type 0 where
+  pub has : Has s at (tlv t c)
+  pub short : ShortTag t
+  pub fits : length c < 65536
+  pub room : ends at (length c) ≤ lim
+
+module _ {s : List ℕ} {lim at t : ℕ} {c : List ℕ} (w : Stands s lim at t c) where
   pub octet-back : getD s at 0 ≡ t
   unfolding tlv
-  octet-back = has-head has
+  octet-back = has-head (w .has)
 
   pub given-back : Given (begins at (length c)) (length c) ≡ lengthAt s lim (at + 1)
   unfolding tlv
-  given-back = length-back s lim (at + 1) (length c) fits (has-first (lengthOctets (length c)) c (has-tail has)) (omega arith)
+  given-back = length-back s lim (at + 1) (length c) (w .fits) (has-first (lengthOctets (length c)) c (has-tail (w .has))) (omega arith)
 
   pub contents-back : Has s (begins at (length c)) c
   unfolding tlv
-  contents-back = has-rest (lengthOctets (length c)) c (has-tail has)
-
-  -- a primitive
-  pub whole-back : (d : ℕ) → (d ≡ 0 → ⊥) → constructor t ≡ 0 → Ends (ends at (length c)) ≡ element s d lim at
-  whole-back d deep k =
-      by-head s d lim at (Whole (ends at (length c))) deep (whole-head s lim at t (begins at (length c)) (length c) short octet-back (omega arith) given-back room k)
+  contents-back = has-rest (lengthOctets (length c)) c (has-tail (w .has))
 
   -- a constructor, whose contents are elements
   module _ (cons : constructor t ≡ 1) where
     head-back : Holds (begins at (length c)) (ends at (length c)) ≡ headAt s lim at
-    head-back = holds-head s lim at t (begins at (length c)) (length c) short octet-back (omega arith) given-back room cons
+    head-back = holds-head s lim at t (begins at (length c)) (length c) (w .short) octet-back (omega arith) given-back (w .room) cons
 
     pub holds-back : (d : ℕ) → (d ≡ 0 → ⊥) → Parts s (d - 1) (ends at (length c)) (begins at (length c)) → Ends (ends at (length c)) ≡ element s d lim at
     holds-back d deep parts =
