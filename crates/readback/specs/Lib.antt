@@ -1,0 +1,4 @@
+pub mod Standing
+pub mod Given
+pub mod Pieces
+pub mod Kinds
