@@ -187,7 +187,7 @@ rejects-back (x ∷ l) r f =
     ∙ ap (λ (m : List Reject). x ∷ m) (rejects-past (length l) 1 i (o ∷ s) ∙ rejects-past (length l) 0 o s ∙ rejects-back l r (λ j h. f (suc j) (omega arith)))
 
 -- a list of four, one by one
-four-octets : (l : List ℕ) → length l ≡ 4 → span 4 0 l ≡ l
+pub four-octets : (l : List ℕ) → length l ≡ 4 → span 4 0 l ≡ l
 four-octets l e = span-part 4 0 l (omega arith) ∙ ap (λ (n : ℕ). take n l) (sym e) ∙ take-length l
 
 abbrev peerOver : Place → List ℕ → Place

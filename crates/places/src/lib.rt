@@ -4,7 +4,7 @@ use paper::Invocation;
 use paper::Reject;
 
 ghost use mathlib.Core.Path.{_≡_};
-ghost use mathlib.Core.List.{[], _++_};
+ghost use mathlib.Core.List.{[], _∷_, _++_};
 ghost use Prim.Native.Nat.{ℕ, _+_, _*_, _-_, _/_, _%_, _≤_, _<_};
 ghost use lib.ListN.{length, getD, replicate, take, drop};
 ghost use lib.Seq.{sets};
@@ -18,7 +18,7 @@ ghost use Rattle.paper.specs.Layout.{placeStart, placeOctets, invocationBy, inv
 ghost use Rattle.facts.specs.Fine.{Storable};
 ghost use Rattle.facts.specs.Octets.{controlOctets};
 ghost use Rattle.facts.specs.Ready.{Ready};
-ghost use Rattle.places.specs.Literal.{headOctets, invocationMark, invocationsFrom, rejectMark, rejectsFrom};
+ghost use Rattle.places.specs.Literal.{headOctets, invocationsFrom, rejectsFrom};
 
 // ---- numbers of octets
 fn wide(x: u8) -> usize
@@ -216,4 +216,117 @@ pub fn free_places(t: &[u8]) -> u32
     ensures { λ r. ⌜ (r ≡ free 128 16 (held (view (now (t .entry)) .places))) × (r ≤ 128) ⌝ }
 {
     freemap::free_count(t)
+}
+
+// ---- STORED
+// All of some octets, put into t from an index on.
+fn put(t: &mut [u8], at: usize, octets: &[u8])
+    requires { ⌜ at + length (now octets) ≤ length (now t) ⌝ }
+    ensures { λ r. ⌜ now (t .exit) ≡ sets (now (t .entry)) at (now (octets .entry)) ⌝ }
+{
+    let mut i: usize = 0;
+    while i < octets.len() {
+        t[at + i] = octets[i];
+        i += 1;
+    }
+}
+
+fn clear(s: &mut [u8])
+    ensures { λ r. ⌜ now (s .exit) ≡ replicate (length (now (s .entry))) 0 ⌝ }
+{
+    let mut i: usize = 0;
+    while i < s.len() {
+        s[i] = 0;
+        i += 1;
+    }
+}
+
+fn low(x: u32) -> u8
+    ensures { λ r. ⌜ r ≡ x % 256 ⌝ }
+{
+    (x % 256) as u8
+}
+
+fn head_octets(c: Control, n: u8) -> [u8; 12]
+    ensures { λ r. ⌜ r ≡ headOctets c n ⌝ }
+{
+    let turn = c.turn;
+    let peer = c.peer;
+    [
+        low(turn / 65536),
+        low(turn / 256),
+        low(turn),
+        c.state,
+        c.service,
+        c.peerlen,
+        peer[0],
+        peer[1],
+        peer[2],
+        peer[3],
+        n,
+        c.count,
+    ]
+}
+
+fn invocation_octets(l: [Invocation; 8]) -> [u8; 16]
+    ensures { λ r. ⌜ r ≡ invocationsFrom 8 0 l ⌝ }
+{
+    [
+        l[0].id,
+        l[0].state % 8 + l[0].class % 8 * 8 + l[0].shown % 4 * 64,
+        l[1].id,
+        l[1].state % 8 + l[1].class % 8 * 8 + l[1].shown % 4 * 64,
+        l[2].id,
+        l[2].state % 8 + l[2].class % 8 * 8 + l[2].shown % 4 * 64,
+        l[3].id,
+        l[3].state % 8 + l[3].class % 8 * 8 + l[3].shown % 4 * 64,
+        l[4].id,
+        l[4].state % 8 + l[4].class % 8 * 8 + l[4].shown % 4 * 64,
+        l[5].id,
+        l[5].state % 8 + l[5].class % 8 * 8 + l[5].shown % 4 * 64,
+        l[6].id,
+        l[6].state % 8 + l[6].class % 8 * 8 + l[6].shown % 4 * 64,
+        l[7].id,
+        l[7].state % 8 + l[7].class % 8 * 8 + l[7].shown % 4 * 64,
+    ]
+}
+
+fn reject_octets(a: Reject, b: Reject, c: Reject, d: Reject) -> [u8; 8]
+    ensures { λ r. ⌜ r ≡ rejectsFrom 4 0 (a ∷ b ∷ c ∷ d ∷ []) ⌝ }
+{
+    [
+        (a.id % 256) as u8,
+        (a.problem % 256 % 8 + a.problem / 256 % 16 * 8 + a.id / 256 % 2 * 128) as u8,
+        (b.id % 256) as u8,
+        (b.problem % 256 % 8 + b.problem / 256 % 16 * 8 + b.id / 256 % 2 * 128) as u8,
+        (c.id % 256) as u8,
+        (c.problem % 256 % 8 + c.problem / 256 % 16 * 8 + c.id / 256 % 2 * 128) as u8,
+        (d.id % 256) as u8,
+        (d.problem % 256 % 8 + d.problem / 256 % 16 * 8 + d.id / 256 % 2 * 128) as u8,
+    ]
+}
+
+fn put_rejects(t: &mut [u8], at: usize, l: [Reject; 8])
+    requires { ⌜ at + 16 ≤ length (now t) ⌝ }
+    ensures { λ r. ⌜ now (t .exit) ≡ sets (now (t .entry)) at (rejectsFrom 8 0 l) ⌝ }
+{
+    let first = reject_octets(l[0], l[1], l[2], l[3]);
+    let last = reject_octets(l[4], l[5], l[6], l[7]);
+    put(t, at, &first);
+    put(t, at + 8, &last);
+}
+
+// The control record and the length of the waiting octets of place p. What that makes of the table is in facts, Stores.
+pub fn put_control(t: &mut [u8], p: usize, c: Control, n: u8)
+    requires { ⌜ (p < 128) × (length (now t) ≡ 36400) × Storable c ⌝ }
+    ensures { λ r. ⌜ now (t .exit) ≡ over (now (t .entry)) (placeStart p) (controlOctets c n) ⌝ }
+{
+    let a = 48 + p * 284;
+    let invocations = c.invocations;
+    let rejects = c.rejects;
+    let first = head_octets(c, n);
+    let second = invocation_octets(invocations);
+    put(t, a, &first);
+    put(t, a + 12, &second);
+    put_rejects(t, a + 28, rejects);
 }
