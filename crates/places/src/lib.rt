@@ -2,7 +2,6 @@
 use paper::Control;
 use paper::Invocation;
 use paper::Reject;
-
 ghost use mathlib.Core.Path.{_≡_};
 ghost use mathlib.Core.List.{[], _∷_, _++_};
 ghost use Prim.Native.Nat.{ℕ, _+_, _*_, _-_, _/_, _%_, _≤_, _<_};
@@ -10,7 +9,7 @@ ghost use lib.ListN.{length, getD, replicate, take, drop};
 ghost use lib.Seq.{sets};
 ghost use Rattle.laws.specs.Lists.{span};
 ghost use Rattle.laws.specs.Parts.{over};
-ghost use Rattle.paper.specs.Sizes.{localID};
+ghost use Rattle.paper.specs.Sizes.{nextTurn};
 ghost use Rattle.paper.specs.Dialogues.{withControl, freed};
 ghost use Rattle.paper.specs.Shares.{free};
 ghost use Rattle.paper.specs.Calls.{placeAt, withPlace, isDialogue, owns, held, lowestFree};
@@ -18,6 +17,7 @@ ghost use Rattle.paper.specs.Layout.{placeStart, placeOctets, invocationBy, inv
 ghost use Rattle.facts.specs.Fine.{Storable};
 ghost use Rattle.facts.specs.Octets.{controlOctets};
 ghost use Rattle.facts.specs.Ready.{Ready};
+ghost use Rattle.places.specs.Storing.{Storing, withWaiting};
 ghost use Rattle.places.specs.Literal.{headOctets, invocationsFrom, rejectsFrom};
 
 // ---- numbers of octets
@@ -329,4 +329,78 @@ pub fn put_control(t: &mut [u8], p: usize, c: Control, n: u8)
     put(t, a, &first);
     put(t, a + 12, &second);
     put_rejects(t, a + 28, rejects);
+}
+
+// "A turn starts at 0 and the turn goes up by one, modulo 16,777,216, each time its place is freed."
+fn next_turn(turn: u32) -> u32
+    requires { ⌜ turn < 16777216 ⌝ }
+    ensures { λ r. ⌜ r ≡ nextTurn turn ⌝ }
+{
+    (turn + 1) % 16777216
+}
+
+// "a free place is all zero but its turn"
+fn blank(s: &mut [u8])
+    requires { ⌜ length (now s) ≡ 284 ⌝ }
+    ensures { λ r. ⌜ now (s .exit) ≡ placeOctets (freed (placeBy (now (s .entry)))) ⌝ }
+{
+    let turn = next_turn(turn_of(s[0], s[1], s[2]));
+    clear(s);
+    s[0] = low(turn / 65536);
+    s[1] = low(turn / 256);
+    s[2] = low(turn);
+}
+
+// ---- THE CHANGES OF A TABLE: what is left is the octet form of the record table with place p changed.
+// The control record of a dialogue.
+pub fn store_control(t: &mut [u8], p: usize, c: Control)
+    requires { ⌜ Storing 0 (now t) p c ⌝ }
+    ensures { λ r. ⌜ now (t .exit) ≡ encode (withPlace (view (now (t .entry))) p (withControl (placeAt (view (now (t .entry))) p) c)) ⌝ }
+{
+    let a = 48 + p * 284;
+    let n = t[a + 10];
+    put_control(t, p, c, n);
+}
+
+// The control record of a dialogue, and octets after those that wait.
+pub fn pass_at(t: &mut [u8], p: usize, c: Control, octets: &[u8])
+    requires { ⌜ Storing 0 (now t) p c × (length (placeAt (view (now t)) p .waiting) + length (now octets) ≤ 240) ⌝ }
+    ensures { λ r. ⌜ now (t .exit) ≡ encode (withPlace (view (now (t .entry))) p (withWaiting c (placeAt (view (now (t .entry))) p .waiting ++ now (octets .entry)))) ⌝ }
+{
+    let a = 48 + p * 284;
+    let n = wide(t[a + 10]);
+    let m = n + octets.len();
+    put(t, a + (44 + n), octets);
+    put_control(t, p, c, m as u8);
+}
+
+// The control record of a dialogue, and no waiting octets.
+pub fn sent_at(t: &mut [u8], p: usize, c: Control)
+    requires { ⌜ Storing 0 (now t) p c ⌝ }
+    ensures { λ r. ⌜ now (t .exit) ≡ encode (withPlace (view (now (t .entry))) p (withWaiting c [])) ⌝ }
+{
+    let a = 92 + p * 284;
+    let e = a + 240;
+    clear(&mut t[a..e]);
+    put_control(t, p, c, 0);
+}
+
+// A free place is taken.
+pub fn begin_at(t: &mut [u8], p: usize, c: Control)
+    requires { ⌜ Storing 1 (now t) p c ⌝ }
+    ensures { λ r. ⌜ now (t .exit) ≡ encode (withPlace (view (now (t .entry))) p (withWaiting c [])) ⌝ }
+{
+    put_control(t, p, c, 0);
+    freemap::clear_bit(t, p);
+}
+
+// A place is freed.
+pub fn free_at(t: &mut [u8], p: usize)
+    requires { ⌜ Ready (now t) × (p < 128) × (flag (placeAt (view (now t)) p) ≡ 0) ⌝ }
+    ensures { λ r. ⌜ now (t .exit) ≡ encode (withPlace (view (now (t .entry))) p (freed (placeAt (view (now (t .entry))) p))) ⌝ }
+{
+    let a = 48 + p * 284;
+    let e = a + 284;
+    blank(&mut t[a..e]);
+    freemap::set_bit(t, p);
 }

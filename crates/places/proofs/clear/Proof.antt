@@ -35,7 +35,7 @@ loop-less c = search needs
 
 -- src/lib.rt:238:5
 loop-again : tie.Need-loop-again Inv-loop μ-loop
-loop-again c =     let l = c .before .loop in
+loop-again c = let l = c .before .loop in
     let s : List ℕ = c .before .before .args .s .now in
     (search needs, simp length-set (l .inv .1), ap (λ (x : List ℕ). set x (l .i) 0) (l .inv .2) ∙ fill-more (l .i) 0 s (omega arith))
 
@@ -45,7 +45,7 @@ same-length c = search needs
 
 -- src/lib.rt:234:1
 returns : tie.Need-returns Inv-loop μ-loop
-returns c =     let s : List ℕ = c .before .before .args .s .now in
+returns c = let s : List ℕ = c .before .before .args .s .now in
     let e : c .before .loop .i ≡ length s = omega arith in
     c .before .loop .inv .2
     ∙ ap (λ (k : ℕ). replicate k 0 ++ drop k s) e

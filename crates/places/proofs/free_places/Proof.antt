@@ -1,4 +1,3 @@
-use native.Mathlib.Omega.{arith}
 use mathlib.Core.Path.{_∙_}
 use Rattle.facts.specs.Counts.{ready-count}
 use borrow.Author.Needs.{needs}
@@ -14,7 +13,7 @@ free-count-requires c κs = search needs
 
 -- src/lib.rt:214:1
 returns : tie.Need-returns
-returns c =     let s = c .before .before in
+returns c = let s = c .before .before in
     (c .free-count .ensures .0 ∙ ready-count (s .args .t .now) (s .pre), c .free-count .ensures .1)
 
 pub free-places-spec : {M : Type 1} → statement M

@@ -14,7 +14,7 @@ shared-slice-read-if1 c = search needs
 
 -- src/lib.rt:184:9
 returns : tie.Need-returns
-returns c =     let a = c .before .before .before .args in
+returns c = let a = c .before .before .before .args in
     dialogue-none (a .s .now) (a .service) (a .turn) (omega arith)
 
 -- src/lib.rt:186:15
@@ -27,7 +27,7 @@ number-requires c κs = search needs
 
 -- src/lib.rt:187:9
 returns-2 : tie.Need-returns-2
-returns-2 c =     let a = c .before .before .before .before .before .before .args in
+returns-2 c = let a = c .before .before .before .before .before .before .args in
     dialogue-other (a .s .now) (a .service) (a .turn) (λ z. omega arith) (λ z. omega arith)
 
 -- src/lib.rt:189:20
@@ -48,7 +48,7 @@ turn-of-requires c κs = search needs
 
 -- src/lib.rt:189:5
 returns-3 : tie.Need-returns-3
-returns-3 c =     let a = c .before .before .before .before .before .before .before .before .before .before .args in
+returns-3 c = let a = c .before .before .before .before .before .before .before .before .before .before .args in
     dialogue-turn (a .s .now) (a .service) (a .turn) (λ z. omega arith) (omega arith) (c .turn-of .result) (c .turn-of .ensures .0)
 
 pub is-dialogue-spec : {M : Type 1} → statement M

@@ -36,7 +36,7 @@ control-of-requires c κs = search needs
 
 -- src/lib.rt:140:1
 returns : tie.Need-returns
-returns c =     let s = c .before .before .before in
+returns c = let s = c .before .before .before in
     control-is (s .args .t .now) (s .args .p) (s .pre .0) (c .control-of .result) (c .control-of .ensures)
 
 pub load-spec : {M : Type 1} → statement M

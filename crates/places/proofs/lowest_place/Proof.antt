@@ -1,4 +1,3 @@
-use native.Mathlib.Omega.{arith}
 use mathlib.Core.Path.{_∙_}
 use Rattle.facts.specs.Counts.{ready-lowest}
 use borrow.Author.Needs.{needs}
@@ -14,7 +13,7 @@ lowest-free-requires c κs = search needs
 
 -- src/lib.rt:207:1
 returns : tie.Need-returns
-returns c =     let s = c .before .before in
+returns c = let s = c .before .before in
     (c .lowest-free .ensures .0 ∙ ready-lowest (s .args .t .now) (s .pre), c .lowest-free .ensures .1)
 
 pub lowest-place-spec : {M : Type 1} → statement M

@@ -49,7 +49,7 @@ is-dialogue-requires c κs = search needs
 
 -- src/lib.rt:203:5
 returns-2 : tie.Need-returns-2
-returns-2 c =     let a = c .before .before .before .before .args in
+returns-2 c = let a = c .before .before .before .before .args in
     owner-is (a .t .now) (a .service) (a .dialogue) (c .is-dialogue .result) (omega arith) (c .is-dialogue .ensures)
 
 pub owner-spec : {M : Type 1} → statement M

@@ -1,6 +1,5 @@
 use Prim.Native.Nat.{ℕ, _≤_, _-_}
 use mathlib.Core.Path.{_≡_, refl, ap, _∙_}
-use mathlib.Core.List.{List}
 use native.Mathlib.Omega.{arith}
 use borrow.Author.Needs.{needs}
 use lib.ListN.{length, take, length-set}
@@ -43,7 +42,7 @@ loop-less c = search needs
 
 -- src/lib.rt:228:5
 loop-again : tie.Need-loop-again Inv-loop μ-loop
-loop-again c =     let b = c .before .before .before .args in
+loop-again c = let b = c .before .before .before .args in
     let l = c .before .before .loop in (
       search needs,
       simp length-set (l .inv .1),
@@ -56,7 +55,7 @@ same-length c = search needs
 
 -- src/lib.rt:223:1
 returns : tie.Need-returns Inv-loop μ-loop
-returns c =     let b = c .before .before .args in
+returns c = let b = c .before .before .args in
     let e : c .before .loop .i ≡ length (b .octets .now) = omega arith in
     c .before .loop .inv .2 ∙ ap (λ (k : ℕ). sets (b .t .now) (b .at) (take k (b .octets .now))) e
     ∙ ap (sets (b .t .now) (b .at)) (take-length (b .octets .now))

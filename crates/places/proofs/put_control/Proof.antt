@@ -64,7 +64,7 @@ same-length c = search needs
 
 -- src/lib.rt:320:1
 returns : tie.Need-returns
-returns c =     let third = c .before .before in
+returns c = let third = c .before .before in
     let second = third .before .before .before .before in
     let first = second .before .before .before .before .before in
     let middle = first .before .before .before in

@@ -77,7 +77,7 @@ same-length c = search needs
 
 -- src/lib.rt:309:1
 returns : tie.Need-returns
-returns c =     let second = c .before .before in
+returns c = let second = c .before .before in
     let first = second .before .before .before .before .before in
     let four = first .before .before .before in
     let eight = four .before .before .before .before .before in

@@ -1,4 +1,3 @@
-use native.Mathlib.Omega.{arith}
 use Rattle.places.proofs.Laws.{turn-is}
 use borrow.Author.Needs.{needs}
 use Rattle.places.proofs.turn_at.Statement.{statement}
@@ -41,7 +40,7 @@ turn-of-requires c κs = search needs
 
 -- src/lib.rt:150:1
 returns : tie.Need-returns
-returns c =     let s = c .before .before .before .before .before in
+returns c = let s = c .before .before .before .before .before in
     (turn-is (s .args .t .now) (s .args .p) (s .pre .0) (c .turn-of .result) (c .turn-of .ensures .0), c .turn-of .ensures .1)
 
 pub turn-at-spec : {M : Type 1} → statement M

@@ -1,4 +1,3 @@
-use native.Mathlib.Omega.{arith}
 use Rattle.places.proofs.Laws.{waiting-is}
 use borrow.Author.Needs.{needs}
 use Rattle.places.proofs.waiting.Statement.{statement}
@@ -37,7 +36,7 @@ part-result-end c = search needs
 
 -- src/lib.rt:168:1
 returns : tie.Need-returns
-returns c =     let s = c .before .before .before in
+returns c = let s = c .before .before .before in
     let w = c .before .waiting-length in
     waiting-is (s .args .t .now) (s .args .p) (s .pre .1) (s .pre .0) (w .result) (w .ensures .0) (w .ensures .1)
 

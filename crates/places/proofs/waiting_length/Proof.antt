@@ -30,7 +30,7 @@ wide-requires c κs = search needs
 
 -- src/lib.rt:159:1
 returns : tie.Need-returns
-returns c =     let s = c .before .before .before in
+returns c = let s = c .before .before .before in
     let e = c .wide .ensures .0 ∙ waits-is (s .args .t .now) (s .args .p) (s .pre .1) (s .pre .0) in
     (e, omega (arith, e, s .pre .0 .fine .each (s .args .p) (s .pre .1) .room))
 
