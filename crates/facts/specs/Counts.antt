@@ -2,12 +2,12 @@
 use mathlib.Core.Path.{_≡_, refl, sym, ap, subst, _∙_}
 use mathlib.Core.Bool.{Bool, true, false, cond}
 use mathlib.Core.List.{List, [], _∷_, map}
-use Prim.Native.Nat.{ℕ, zero, suc, _+_, _*_, _-_, _<_, _≤_}
+use Prim.Native.Nat.{ℕ, zero, suc, _+_, _-_, _<_}
 use native.Mathlib.Omega.{arith}
 use lib.Dec.{eqb, ltb, leb}
-use borrow.Author.Tests.{eqb-true, eqb-false, ltb-true, ltb-false, le-leb, lt-leb, eq-eqb, ne-eqb}
+use borrow.Author.Tests.{eqb-true, eqb-false, ltb-true, ltb-false, le-leb, lt-leb}
 use lib.ListN.{length, getD, take}
-use Rattle.laws.specs.If.{ifEq, ifB, eq, ne, yes, no}
+use Rattle.laws.specs.If.{ifEq, ifB, ne, yes, no}
 use Rattle.laws.specs.Sums.{sum, sum-ext, sum-plus, sum-zero, sumBy}
 use Rattle.laws.specs.Lists.{firstAt}
 use Rattle.laws.specs.Digits.{octetDigits, lowest, count}
@@ -15,7 +15,7 @@ use Rattle.paper.specs.Dialogues.{Place, emptyPlace}
 use Rattle.paper.specs.Shares.{free}
 use Rattle.paper.specs.Calls.{Table, placeAt, isFree, isOf, held, lowestFree}
 use Rattle.paper.specs.Layout.{flag, view}
-use Rattle.facts.specs.Fine.{FinePlace, Fine}
+use Rattle.facts.specs.Fine.{Fine}
 use Rattle.facts.specs.Slots.{flag-free, flag-used}
 use Rattle.facts.specs.Ready.{Ready, ready-bits}
 

@@ -1,6 +1,6 @@
 -- WHAT A TABLE THAT KEEPS THE RULES IS (01, "Answer numbers", table rules), said of the records. Assumes nothing.
 use mathlib.Core.Path.{_≡_}
-use mathlib.Core.Bool.{Bool, true, false}
+use mathlib.Core.Bool.{true, false}
 use mathlib.Core.List.{List}
 use Prim.Native.Nat.{ℕ, _<_, _≤_}
 use lib.ListN.{length, getD, drop}

@@ -1,8 +1,8 @@
 -- THE TESTS OF A PLACE (paper's Rules) hold exactly where its record is fine. Assumes nothing.
-use mathlib.Core.Path.{_≡_, refl, sym, ap, subst, _∙_}
+use mathlib.Core.Path.{_≡_, refl, sym, ap, _∙_}
 use mathlib.Core.Bool.{Bool, true, false}
 use mathlib.Core.List.{List, [], _∷_}
-use Prim.Native.Nat.{ℕ, zero, suc, _+_, _*_, _-_, _/_, _%_, _<_, _≤_}
+use Prim.Native.Nat.{ℕ, zero, suc, _-_, _<_, _≤_}
 use native.Mathlib.Omega.{arith}
 use lib.Dec.{eqb, ltb, leb}
 use borrow.Author.Tests.{eqb-true, eqb-false, leb-true, ltb-true, ltb-false, eq-eqb, ne-eqb, le-leb}
@@ -12,9 +12,9 @@ use Rattle.laws.specs.Lists.{zeros}
 use Rattle.paper.specs.declared.Invocation.{Invocation}
 use Rattle.paper.specs.declared.Reject.{Reject}
 use Rattle.paper.specs.declared.Control.{Control}
-use Rattle.paper.specs.Problems.{senderOf, senderOfProblem, byLayer, byUser, byNobody, kindOf, codeOf}
+use Rattle.paper.specs.Problems.{senderOf, senderOfProblem, byLayer, byUser, byNobody, kindOf}
 use Rattle.paper.specs.Invocations.{noInvocation, isOpen, slotOf}
-use Rattle.paper.specs.Dialogues.{Place, emptyPlace, noReject}
+use Rattle.paper.specs.Dialogues.{noReject}
 use Rattle.paper.specs.Rules.{invocationKept, differs, invocationsKept, rejectKept, rejectZero, rejectsKept, hasPeer, peerKept, controlKept}
 use Rattle.facts.specs.Zeros.{none-passes, no-first}
 use Rattle.facts.specs.Fine.{FineInvocation, FineInvocations, FineReject, FineRejects, FinePeer, FineControl}

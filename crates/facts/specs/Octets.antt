@@ -7,19 +7,18 @@ use native.Mathlib.Omega.{arith}
 use native.Mathlib.Nat.{add-zero, div-div-eq-div-mul}
 use lib.Dec.{ltb}
 use borrow.Author.Tests.{ltb-true, ltb-false}
-use lib.ListN.{length, getD, take, drop, replicate, length-append, length-drop}
+use lib.ListN.{length, getD, take, drop, length-append, length-drop}
 use lib.Seq.{drop-cons, drop-drop, drop-at, length-take-le, take-length}
 use Rattle.laws.specs.Lists.{zeros, pad, span, span-part, span-drop}
 use Rattle.paper.specs.declared.Invocation.{Invocation}
 use Rattle.paper.specs.declared.Reject.{Reject}
 use Rattle.paper.specs.declared.Control.{Control}
 use Rattle.paper.specs.Sizes.{three}
-use Rattle.paper.specs.Problems.{kindOf, codeOf, senderOf}
-use Rattle.paper.specs.Invocations.{noInvocation}
+use Rattle.paper.specs.Problems.{kindOf, codeOf}
 use Rattle.paper.specs.Dialogues.{Place, noReject}
 use Rattle.paper.specs.Layout.{invocationOctets, waitingRejectOctets, placeOctets, invocationBy, invocationsAt, rejectBy, rejectsAt, placeBy}
 use Rattle.facts.specs.Zeros.{pad-length, pad-of, pad-rest}
-use Rattle.facts.specs.Fine.{Octets, FineInvocation, FineInvocations, FineReject, FineRejects, FineControl, Storable}
+use Rattle.facts.specs.Fine.{Octets, FineInvocation, FineInvocations, FineRejects, FineControl, Storable}
 use Rattle.facts.specs.Kept.{same-invocation, same-reject, layer-small}
 
 -- ---- what a store asks
@@ -187,7 +186,7 @@ rejects-back (x ∷ l) r f =
     ∙ ap (λ (m : List Reject). x ∷ m) (rejects-past (length l) 1 i (o ∷ s) ∙ rejects-past (length l) 0 o s ∙ rejects-back l r (λ j h. f (suc j) (omega arith)))
 
 -- a list of four, one by one
-four-octets : (l : List ℕ) → length l ≡ 4 → span 4 0 l ≡ l
+pub four-octets : (l : List ℕ) → length l ≡ 4 → span 4 0 l ≡ l
 four-octets l e = span-part 4 0 l (omega arith) ∙ ap (λ (n : ℕ). take n l) (sym e) ∙ take-length l
 
 abbrev peerOver : Place → List ℕ → Place

@@ -1,11 +1,10 @@
 -- A DIALOGUE FOUND by place and turn and service and state (answer 5). Assumes nothing.
-use mathlib.Core.Path.{_≡_, refl, sym, ap, _∙_}
+use mathlib.Core.Path.{_≡_, refl, sym, _∙_}
 use mathlib.Core.Bool.{Bool, true, false}
 use Prim.Native.Nat.{ℕ, _<_}
-use native.Mathlib.Omega.{arith}
 use lib.Dec.{eqb}
 use borrow.Author.Tests.{eqb-true, eqb-false}
-use Rattle.laws.specs.If.{ifLt, ifEq, ifB, was-lt, was-eq, yes, no, true-false}
+use Rattle.laws.specs.If.{ifEq, was-lt, was-eq, yes, no, true-false}
 use Rattle.paper.specs.Sizes.{placeOf, turnOf}
 use Rattle.paper.specs.Dialogues.{Place}
 use Rattle.paper.specs.Calls.{Table, placeAt, isFree, isDialogue, owns}

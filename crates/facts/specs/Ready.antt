@@ -1,19 +1,18 @@
 -- THE TABLE RULES HOLD exactly where the octets are those of a fine table. Assumes nothing.
-use mathlib.Core.Path.{_≡_, refl, sym, ap, subst, _∙_}
-use mathlib.Core.Bool.{Bool, true, false}
-use mathlib.Core.List.{List, [], _∷_, _++_, map}
-use Prim.Native.Nat.{ℕ, zero, suc, _+_, _*_, _-_, _<_, _≤_}
+use mathlib.Core.Path.{_≡_, sym, ap, subst, _∙_}
+use mathlib.Core.Bool.{true, false}
+use mathlib.Core.List.{List, map}
+use Prim.Native.Nat.{ℕ, _+_, _-_, _<_, _≤_}
 use native.Mathlib.Omega.{arith}
 use lib.ListN.{length, getD, take, drop, length-drop}
 use lib.Seq.{length-take-le, getD-take, getD-drop}
-use Rattle.laws.specs.If.{ifB, yes, was-yes, true-false, all, all-of}
+use Rattle.laws.specs.If.{yes, was-yes, true-false, all, all-of}
 use Rattle.laws.specs.Digits.{octetDigits}
-use Rattle.paper.specs.Dialogues.{Place}
 use Rattle.paper.specs.Calls.{Table, placeAt, guaranteeOf, limitOf}
 use Rattle.paper.specs.Layout.{placeOctets, flag, encode, slot, view, mapBit}
 use Rattle.paper.specs.Rules.{placeKept, tableShares, rules}
-use Rattle.facts.specs.Fine.{Octets, FinePlace, Fine}
-use Rattle.facts.specs.Whole.{encode-length, encode-slot, encode-bits, encode-bit, encode-kept, view-encode, view-at, view-length, view-each, encode-view}
+use Rattle.facts.specs.Fine.{Octets, Fine}
+use Rattle.facts.specs.Whole.{encode-length, encode-slot, encode-bits, encode-bit, encode-kept, view-encode, view-length, view-each, encode-view}
 
 -- ---- A FINE TABLE'S OCTETS KEEP THE RULES
 pub encode-rules : (T : Table) → Fine T → rules (encode T) ≡ true

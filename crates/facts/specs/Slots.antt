@@ -1,24 +1,23 @@
 -- A PLACE'S OCTETS AND ITS BIT keep the rules exactly where they are those of a fine place. Assumes nothing.
 use mathlib.Core.Path.{_≡_, refl, sym, ap, subst, _∙_}
 use mathlib.Core.Bool.{Bool, true, false}
-use mathlib.Core.List.{List, [], _∷_, _++_}
-use Prim.Native.Nat.{ℕ, zero, suc, _+_, _*_, _-_, _<_, _≤_}
+use mathlib.Core.List.{List, _∷_, _++_}
+use Prim.Native.Nat.{ℕ, _+_, _-_, _<_}
 use native.Mathlib.Omega.{arith}
 use lib.Dec.{eqb}
 use borrow.Author.Tests.{eqb-true, eqb-false, eq-eqb, ne-eqb}
-use lib.ListN.{length, getD, take, drop, replicate, length-drop, length-replicate, getD-replicate}
+use lib.ListN.{length, getD, drop, replicate, length-drop, length-replicate, getD-replicate}
 use lib.Seq.{drop-drop}
 use Rattle.laws.specs.If.{ifLt, ifEq, ifB, ge, eq, ne, yes, no, was-ge, was-eq, was-yes, by-eq, true-false}
-use Rattle.laws.specs.Lists.{zeros, pad, span-drop}
+use Rattle.laws.specs.Lists.{zeros, span-drop}
 use Rattle.paper.specs.declared.Invocation.{Invocation}
-use Rattle.paper.specs.declared.Reject.{Reject}
 use Rattle.paper.specs.Invocations.{noInvocation}
-use Rattle.paper.specs.Dialogues.{Place, emptyPlace, emptyControl, noReject}
+use Rattle.paper.specs.Dialogues.{Place, emptyPlace, noReject}
 use Rattle.paper.specs.Calls.{isFree}
 use Rattle.paper.specs.Layout.{placeOctets, placeBy, flag}
 use Rattle.paper.specs.Rules.{controlKept, hasPeer, waitingKept, freeKept, usedKept}
 use Rattle.facts.specs.Zeros.{zeros-are, zeros-of, pad-none, pad-rest}
-use Rattle.facts.specs.Fine.{Octets, FineInvocation, FineInvocations, FineRejects, FinePeer, FineControl, Storable, FinePlace}
+use Rattle.facts.specs.Fine.{Octets, FineInvocation, FineInvocations, FineRejects, Storable, FinePlace}
 use Rattle.facts.specs.Kept.{control-is, control-kept}
 use Rattle.facts.specs.Octets.{fine-storable, slot-turn, slot-waits, slot-back, place-back, length-at, waiting-at}
 

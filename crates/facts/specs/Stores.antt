@@ -1,27 +1,25 @@
 -- ONE PLACE STORED: what its octets, and its bit of the map, do to the table. Assumes nothing.
-use mathlib.Core.Path.{_≡_, refl, sym, ap, subst, _∙_}
-use mathlib.Core.Bool.{Bool, true, false}
-use mathlib.Core.List.{List, [], _∷_, _++_, map, append-assoc, append-nil}
-use Prim.Native.Nat.{ℕ, zero, suc, _+_, _*_, _-_, _/_, _%_, _^_, _<_, _≤_}
+use mathlib.Core.Path.{_≡_, refl, sym, ap, _∙_}
+use mathlib.Core.List.{List, [], _++_, map, append-assoc, append-nil}
+use Prim.Native.Nat.{ℕ, _+_, _*_, _-_, _/_, _%_, _^_, _<_, _≤_}
 use native.Mathlib.Omega.{arith}
 use native.Mathlib.Nat.{add-zero}
-use lib.ListN.{length, getD, set, take, drop, replicate, length-append, length-set, length-replicate, take-append-drop}
+use lib.ListN.{length, getD, set, take, drop, replicate, length-append, take-append-drop}
 use lib.Seq.{sets, sets-eq, map-set-same, take-at, drop-at, drop-length, length-take-le, drop-append-add}
-use borrow.Rule.Slice.PartMut.{putMid}
 use Rattle.laws.specs.Lists.{pad}
 use Rattle.laws.specs.Digits.{digits, octetDigits, packedOctets, packedOctets-small, small-set, map-digit, digits-add, digits-sub, digit-room}
-use Rattle.laws.specs.Parts.{part, over, over-length, over-same, over-before, over-in, shift, put-over}
+use Rattle.laws.specs.Parts.{part, over, over-length, over-same, over-before, over-in, shift}
 use Rattle.paper.specs.declared.Control.{Control}
 use Rattle.paper.specs.Sizes.{nextTurn}
 use Rattle.paper.specs.Dialogues.{Place, emptyPlace, withControl, freed}
 use Rattle.paper.specs.Calls.{Table, placeAt, withPlace}
-use Rattle.paper.specs.Layout.{placeStart, placeOctets, flag, mapOctets, encode, slot, view, mapBit}
+use Rattle.paper.specs.Layout.{placeStart, placeOctets, flag, mapOctets, encode, slot, mapBit}
 use Rattle.freemap.specs.Map.{withBit, withoutBit}
 use Rattle.facts.specs.Zeros.{pad-length, pad-none, pad-more}
-use Rattle.facts.specs.Fine.{Octets, Storable, FinePlace, Fine}
+use Rattle.facts.specs.Fine.{Storable, Fine}
 use Rattle.facts.specs.Octets.{fine-storable, controlOctets, controlOctets-length, place-split, placeOctets-length}
 use Rattle.facts.specs.Slots.{flag-free, flag-used, free-is, empty-storable}
-use Rattle.facts.specs.Whole.{laid, laid-set, laid-at, laid-length, laid-over, fine-fit, flags-two, flag-at, map-digits, map-length, map-store, encode-slot, encode-length, encode-bit}
+use Rattle.facts.specs.Whole.{laid, laid-set, laid-at, laid-over, fine-fit, flags-two, flag-at, map-digits, map-length, map-store, encode-slot, encode-length, encode-bit}
 
 -- ---- one part replaced, twice
 pub sets-over : (l : List ℕ) (i : ℕ) (vs : List ℕ) → i + length vs ≤ length l → sets l i vs ≡ over l i vs

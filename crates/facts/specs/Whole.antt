@@ -4,7 +4,6 @@ use mathlib.Core.Bool.{Bool, true, false}
 use mathlib.Core.List.{List, [], _∷_, _++_, map}
 use Prim.Native.Nat.{ℕ, zero, suc, _+_, _*_, _-_, _/_, _%_, _<_, _≤_}
 use native.Mathlib.Omega.{arith}
-use lib.Dec.{eqb}
 use lib.ListN.{length, getD, set, take, drop, length-drop, length-append, length-set, length-map, List·getD-append, take-append-drop, drop-of-length-le}
 use lib.Seq.{take-at, drop-at, drop-drop, getD-drop, ext-getD, length-take-le, set-append-left, drop-append-add}
 use Rattle.laws.specs.If.{ifB, yes, no, all, all-at}

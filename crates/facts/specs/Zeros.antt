@@ -1,12 +1,12 @@
 -- Runs of zeros and padding; the first of a list that passes a test. Assumes nothing.
-use mathlib.Core.Path.{_≡_, refl, sym, ap, subst, _∙_}
+use mathlib.Core.Path.{_≡_, refl, sym, ap, _∙_}
 use mathlib.Core.Bool.{Bool, true, false}
 use mathlib.Core.List.{List, [], _∷_, _++_}
 use Prim.Native.Nat.{ℕ, zero, suc, _+_, _-_, _<_, _≤_}
 use native.Mathlib.Omega.{arith}
 use lib.ListN.{length, getD, set, take, drop, replicate}
 use lib.Seq.{sets}
-use Rattle.laws.specs.If.{ifEq, ifB, eq, yes, no, was-eq, was-yes, true-false}
+use Rattle.laws.specs.If.{eq, yes, no, was-eq, true-false}
 use Rattle.laws.specs.Lists.{zeros, pad, firstAt}
 
 -- ---- zeros

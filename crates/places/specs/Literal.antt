@@ -15,16 +15,16 @@ headOctets c n =
     three (c .turn)
     (c .state ∷ c .service ∷ c .peerlen ∷ getD (c .peer) 0 0 ∷ getD (c .peer) 1 0 ∷ getD (c .peer) 2 0 ∷ getD (c .peer) 3 0 ∷ n ∷ c .count ∷ [])
 
-abbrev pub invocationMark : Invocation → ℕ
-invocationMark v = v .state % 8 + v .class % 8 * 8 + v .shown % 4 * 64
-
 abbrev pub invocationsFrom : ℕ → ℕ → List Invocation → List ℕ
 invocationsFrom zero i l = []
-invocationsFrom (suc n) i l = getD l i noInvocation .id ∷ invocationMark (getD l i noInvocation) ∷ invocationsFrom n (suc i) l
-
-abbrev pub rejectMark : Reject → ℕ
-rejectMark r = r .problem % 256 % 8 + r .problem / 256 % 16 * 8 + r .id / 256 % 2 * 128
+invocationsFrom (suc n) i l =
+    getD l i noInvocation .id
+    ∷ (getD l i noInvocation .state % 8 + getD l i noInvocation .class % 8 * 8 + getD l i noInvocation .shown % 4 * 64)
+    ∷ invocationsFrom n (suc i) l
 
 abbrev pub rejectsFrom : ℕ → ℕ → List Reject → List ℕ
 rejectsFrom zero i l = []
-rejectsFrom (suc n) i l = getD l i noReject .id % 256 ∷ rejectMark (getD l i noReject) ∷ rejectsFrom n (suc i) l
+rejectsFrom (suc n) i l =
+    getD l i noReject .id % 256
+    ∷ (getD l i noReject .problem % 256 % 8 + getD l i noReject .problem / 256 % 16 * 8 + getD l i noReject .id / 256 % 2 * 128)
+    ∷ rejectsFrom n (suc i) l

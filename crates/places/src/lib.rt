@@ -3,13 +3,13 @@ use paper::Control;
 use paper::Invocation;
 use paper::Reject;
 ghost use mathlib.Core.Path.{_≡_};
-ghost use mathlib.Core.List.{[], _++_};
+ghost use mathlib.Core.List.{[], _∷_, _++_};
 ghost use Prim.Native.Nat.{ℕ, _+_, _*_, _-_, _/_, _%_, _≤_, _<_};
 ghost use lib.ListN.{length, getD, replicate, take, drop};
 ghost use lib.Seq.{sets};
 ghost use Rattle.laws.specs.Lists.{span};
 ghost use Rattle.laws.specs.Parts.{over};
-ghost use Rattle.paper.specs.Sizes.{localID};
+ghost use Rattle.paper.specs.Sizes.{nextTurn};
 ghost use Rattle.paper.specs.Dialogues.{withControl, freed};
 ghost use Rattle.paper.specs.Shares.{free};
 ghost use Rattle.paper.specs.Calls.{placeAt, withPlace, isDialogue, owns, held, lowestFree};
@@ -17,7 +17,8 @@ ghost use Rattle.paper.specs.Layout.{placeStart, placeOctets, invocationBy, inv
 ghost use Rattle.facts.specs.Fine.{Storable};
 ghost use Rattle.facts.specs.Octets.{controlOctets};
 ghost use Rattle.facts.specs.Ready.{Ready};
-ghost use Rattle.places.specs.Literal.{headOctets, invocationMark, invocationsFrom, rejectMark, rejectsFrom};
+ghost use Rattle.places.specs.Storing.{Storing, withWaiting};
+ghost use Rattle.places.specs.Literal.{headOctets, invocationsFrom, rejectsFrom};
 
 // ---- numbers of octets
 fn wide(x: u8) -> usize
@@ -215,4 +216,191 @@ pub fn free_places(t: &[u8]) -> u32
     ensures { λ r. ⌜ (r ≡ free 128 16 (held (view (now (t .entry)) .places))) × (r ≤ 128) ⌝ }
 {
     freemap::free_count(t)
+}
+
+// ---- STORED
+// All of some octets, put into t from an index on.
+fn put(t: &mut [u8], at: usize, octets: &[u8])
+    requires { ⌜ at + length (now octets) ≤ length (now t) ⌝ }
+    ensures { λ r. ⌜ now (t .exit) ≡ sets (now (t .entry)) at (now (octets .entry)) ⌝ }
+{
+    let mut i: usize = 0;
+    while i < octets.len() {
+        t[at + i] = octets[i];
+        i += 1;
+    }
+}
+
+fn clear(s: &mut [u8])
+    ensures { λ r. ⌜ now (s .exit) ≡ replicate (length (now (s .entry))) 0 ⌝ }
+{
+    let mut i: usize = 0;
+    while i < s.len() {
+        s[i] = 0;
+        i += 1;
+    }
+}
+
+fn low(x: u32) -> u8
+    ensures { λ r. ⌜ r ≡ x % 256 ⌝ }
+{
+    (x % 256) as u8
+}
+
+fn head_octets(c: Control, n: u8) -> [u8; 12]
+    ensures { λ r. ⌜ r ≡ headOctets c n ⌝ }
+{
+    let turn = c.turn;
+    let peer = c.peer;
+    [
+        low(turn / 65536),
+        low(turn / 256),
+        low(turn),
+        c.state,
+        c.service,
+        c.peerlen,
+        peer[0],
+        peer[1],
+        peer[2],
+        peer[3],
+        n,
+        c.count,
+    ]
+}
+
+fn invocation_octets(l: [Invocation; 8]) -> [u8; 16]
+    ensures { λ r. ⌜ r ≡ invocationsFrom 8 0 l ⌝ }
+{
+    [
+        l[0].id,
+        l[0].state % 8 + l[0].class % 8 * 8 + l[0].shown % 4 * 64,
+        l[1].id,
+        l[1].state % 8 + l[1].class % 8 * 8 + l[1].shown % 4 * 64,
+        l[2].id,
+        l[2].state % 8 + l[2].class % 8 * 8 + l[2].shown % 4 * 64,
+        l[3].id,
+        l[3].state % 8 + l[3].class % 8 * 8 + l[3].shown % 4 * 64,
+        l[4].id,
+        l[4].state % 8 + l[4].class % 8 * 8 + l[4].shown % 4 * 64,
+        l[5].id,
+        l[5].state % 8 + l[5].class % 8 * 8 + l[5].shown % 4 * 64,
+        l[6].id,
+        l[6].state % 8 + l[6].class % 8 * 8 + l[6].shown % 4 * 64,
+        l[7].id,
+        l[7].state % 8 + l[7].class % 8 * 8 + l[7].shown % 4 * 64,
+    ]
+}
+
+fn reject_octets(a: Reject, b: Reject, c: Reject, d: Reject) -> [u8; 8]
+    ensures { λ r. ⌜ r ≡ rejectsFrom 4 0 (a ∷ b ∷ c ∷ d ∷ []) ⌝ }
+{
+    [
+        (a.id % 256) as u8,
+        (a.problem % 256 % 8 + a.problem / 256 % 16 * 8 + a.id / 256 % 2 * 128) as u8,
+        (b.id % 256) as u8,
+        (b.problem % 256 % 8 + b.problem / 256 % 16 * 8 + b.id / 256 % 2 * 128) as u8,
+        (c.id % 256) as u8,
+        (c.problem % 256 % 8 + c.problem / 256 % 16 * 8 + c.id / 256 % 2 * 128) as u8,
+        (d.id % 256) as u8,
+        (d.problem % 256 % 8 + d.problem / 256 % 16 * 8 + d.id / 256 % 2 * 128) as u8,
+    ]
+}
+
+fn put_rejects(t: &mut [u8], at: usize, l: [Reject; 8])
+    requires { ⌜ at + 16 ≤ length (now t) ⌝ }
+    ensures { λ r. ⌜ now (t .exit) ≡ sets (now (t .entry)) at (rejectsFrom 8 0 l) ⌝ }
+{
+    let first = reject_octets(l[0], l[1], l[2], l[3]);
+    let last = reject_octets(l[4], l[5], l[6], l[7]);
+    put(t, at, &first);
+    put(t, at + 8, &last);
+}
+
+// The control record and the length of the waiting octets of place p. What that makes of the table is in facts, Stores.
+pub fn put_control(t: &mut [u8], p: usize, c: Control, n: u8)
+    requires { ⌜ (p < 128) × (length (now t) ≡ 36400) × Storable c ⌝ }
+    ensures { λ r. ⌜ now (t .exit) ≡ over (now (t .entry)) (placeStart p) (controlOctets c n) ⌝ }
+{
+    let a = 48 + p * 284;
+    let invocations = c.invocations;
+    let rejects = c.rejects;
+    let first = head_octets(c, n);
+    let second = invocation_octets(invocations);
+    put(t, a, &first);
+    put(t, a + 12, &second);
+    put_rejects(t, a + 28, rejects);
+}
+
+// "A turn starts at 0 and the turn goes up by one, modulo 16,777,216, each time its place is freed."
+fn next_turn(turn: u32) -> u32
+    requires { ⌜ turn < 16777216 ⌝ }
+    ensures { λ r. ⌜ r ≡ nextTurn turn ⌝ }
+{
+    (turn + 1) % 16777216
+}
+
+// "a free place is all zero but its turn"
+fn blank(s: &mut [u8])
+    requires { ⌜ length (now s) ≡ 284 ⌝ }
+    ensures { λ r. ⌜ now (s .exit) ≡ placeOctets (freed (placeBy (now (s .entry)))) ⌝ }
+{
+    let turn = next_turn(turn_of(s[0], s[1], s[2]));
+    clear(s);
+    s[0] = low(turn / 65536);
+    s[1] = low(turn / 256);
+    s[2] = low(turn);
+}
+
+// ---- THE CHANGES OF A TABLE: what is left is the octet form of the record table with place p changed.
+// The control record of a dialogue.
+pub fn store_control(t: &mut [u8], p: usize, c: Control)
+    requires { ⌜ Storing 0 (now t) p c ⌝ }
+    ensures { λ r. ⌜ now (t .exit) ≡ encode (withPlace (view (now (t .entry))) p (withControl (placeAt (view (now (t .entry))) p) c)) ⌝ }
+{
+    let a = 48 + p * 284;
+    let n = t[a + 10];
+    put_control(t, p, c, n);
+}
+
+// The control record of a dialogue, and octets after those that wait.
+pub fn pass_at(t: &mut [u8], p: usize, c: Control, octets: &[u8])
+    requires { ⌜ Storing 0 (now t) p c × (length (placeAt (view (now t)) p .waiting) + length (now octets) ≤ 240) ⌝ }
+    ensures { λ r. ⌜ now (t .exit) ≡ encode (withPlace (view (now (t .entry))) p (withWaiting c (placeAt (view (now (t .entry))) p .waiting ++ now (octets .entry)))) ⌝ }
+{
+    let a = 48 + p * 284;
+    let n = wide(t[a + 10]);
+    let m = n + octets.len();
+    put(t, a + (44 + n), octets);
+    put_control(t, p, c, m as u8);
+}
+
+// The control record of a dialogue, and no waiting octets.
+pub fn sent_at(t: &mut [u8], p: usize, c: Control)
+    requires { ⌜ Storing 0 (now t) p c ⌝ }
+    ensures { λ r. ⌜ now (t .exit) ≡ encode (withPlace (view (now (t .entry))) p (withWaiting c [])) ⌝ }
+{
+    let a = 92 + p * 284;
+    let e = a + 240;
+    clear(&mut t[a..e]);
+    put_control(t, p, c, 0);
+}
+
+// A free place is taken.
+pub fn begin_at(t: &mut [u8], p: usize, c: Control)
+    requires { ⌜ Storing 1 (now t) p c ⌝ }
+    ensures { λ r. ⌜ now (t .exit) ≡ encode (withPlace (view (now (t .entry))) p (withWaiting c [])) ⌝ }
+{
+    put_control(t, p, c, 0);
+    freemap::clear_bit(t, p);
+}
+
+// A place is freed.
+pub fn free_at(t: &mut [u8], p: usize)
+    requires { ⌜ Ready (now t) × (p < 128) × (flag (placeAt (view (now t)) p) ≡ 0) ⌝ }
+    ensures { λ r. ⌜ now (t .exit) ≡ encode (withPlace (view (now (t .entry))) p (freed (placeAt (view (now (t .entry))) p))) ⌝ }
+{
+    let a = 48 + p * 284;
+    let e = a + 284;
+    blank(&mut t[a..e]);
+    freemap::set_bit(t, p);
 }

@@ -1,4 +1,3 @@
-use native.Mathlib.Omega.{arith}
 use mathlib.Core.Path.{_∙_}
 use Rattle.facts.specs.Counts.{ready-lowest}
 use borrow.Author.Needs.{needs}

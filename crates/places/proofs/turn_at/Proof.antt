@@ -1,4 +1,3 @@
-use native.Mathlib.Omega.{arith}
 use Rattle.places.proofs.Laws.{turn-is}
 use borrow.Author.Needs.{needs}
 use Rattle.places.proofs.turn_at.Statement.{statement}
