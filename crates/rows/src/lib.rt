@@ -2,6 +2,7 @@
 ghost use mathlib.Core.Path.{_≡_};
 ghost use Prim.Native.Nat.{ℕ, _+_, _*_, _-_, _<_, _≤_};
 ghost use lib.ListN.{length};
+ghost use lib.Seq.{sets};
 ghost use Rattle.paper.specs.Rows.{signed, startOf, extentOf, dialogueRow, cancelRow, componentRow, rowOctets};
 use paper::Component;
 use paper::Row;
@@ -142,4 +143,14 @@ pub fn octets(r: Row) -> [u8; 32]
         (h / 65536 % 256) as u8,
         (h / 16777216 % 256) as u8,
     ]
+}
+
+// Row k of a row space.
+pub fn write_row(rows: &mut [u8], k: usize, r: Row)
+    requires { ⌜ k * 32 + 32 ≤ length (now rows) ⌝ }
+    ensures is { λ _. ⌜ now (rows .exit) ≡ sets (now (rows .entry)) (k * 32) (rowOctets r) ⌝ }
+    ensures long { λ _. ⌜ length (now (rows .exit)) ≡ length (now (rows .entry)) ⌝ }
+{
+    let b = octets(r);
+    writing::copy_at(rows, k * 32, &b);
 }

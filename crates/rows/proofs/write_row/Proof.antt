@@ -1,0 +1,46 @@
+use native.Mathlib.Omega.{arith}
+use mathlib.Core.Path.{_≡_, refl, sym, ap, _∙_}
+use Rattle.laws.specs.If.{lt, ge, eq, ne, yes, no}
+use lib.Seq.{sets}
+use borrow.Author.Needs.{needs}
+use Rattle.rows.proofs.write_row.Statement.{statement}
+use Rattle.rows.proofs.write_row.Tie as tie
+use Rattle.rows.proofs.write_row.Reads as reads
+use Rattle.rows.proofs.write_row.Lts as lts
+use Rattle.rows.proofs.octets.Reads as octets-reads
+use Rattle.writing.proofs.copy_at.Reads as copy-at-reads
+
+-- src/lib.rt:154:13
+octets-requires : tie.Need-octets-requires
+octets-requires c κs = search needs
+
+-- src/lib.rt:155:28
+mul-copy-at : tie.Need-mul-copy-at
+mul-copy-at c = search needs
+
+-- src/lib.rt:155:36
+slice-aggregate-copy-at : tie.Need-slice-aggregate-copy-at
+slice-aggregate-copy-at c = search needs
+
+-- src/lib.rt:155:5
+copy-at-requires : tie.Need-copy-at-requires
+copy-at-requires c κs = search needs
+
+-- src/lib.rt:149:1
+same-length : tie.Need-same-length
+same-length c = search needs
+
+-- src/lib.rt:149:1
+returns : tie.Need-returns
+returns c = (c .before .before .copy-at .ensures .holds ∙ ap (sets _ _) (c .before .before .before .before .before .octets .ensures), c .before .before .copy-at .ensures .long)
+
+pub write-row-spec : {M : Type 1} → statement M
+write-row-spec =
+    tie.close
+    (tie.spec
+    octets-requires
+    mul-copy-at
+    slice-aggregate-copy-at
+    copy-at-requires
+    same-length
+    returns)

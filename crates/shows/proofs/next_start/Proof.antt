@@ -1,0 +1,21 @@
+use native.Mathlib.Omega.{arith}
+use mathlib.Core.Path.{_≡_, refl, sym, ap, _∙_}
+use Rattle.laws.specs.If.{lt, ge, eq, ne, yes, no}
+use Rattle.paper.specs.Components.{nextStart}
+use Rattle.shows.proofs.next_start.Statement.{statement}
+use Rattle.shows.proofs.next_start.Tie as tie
+use Rattle.shows.proofs.next_start.Reads as reads
+use Rattle.shows.proofs.next_start.Lts as lts
+
+-- src/lib.rt:29:9
+returns : tie.Need-returns
+unfolding nextStart
+returns c = eq _ _ _ _ (omega arith) refl
+
+-- src/lib.rt:25:1
+returns-2 : tie.Need-returns-2
+unfolding nextStart
+returns-2 c = ne _ _ _ _ (λ h. omega arith) refl
+
+pub next-start-spec : {M : Type 1} → statement M
+next-start-spec = tie.close (tie.spec returns returns-2)
