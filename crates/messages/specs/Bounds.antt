@@ -1,11 +1,11 @@
 -- WHERE THE PARTS OF A MESSAGE THAT IS READ LIE. Assumes nothing.
-use mathlib.Core.Path.{_≡_, refl, sym, _∙_, ap, subst}
+use mathlib.Core.Path.{_≡_, refl, sym, ap, subst}
 use mathlib.Core.Bool.{Bool, true, false}
 use mathlib.Core.List.{List}
-use Prim.Native.Nat.{ℕ, zero, suc, _+_, _*_, _-_, _<_, _≤_}
+use Prim.Native.Nat.{ℕ, _+_, _-_, _<_, _≤_}
 use native.Mathlib.Omega.{arith}
 use lib.ListN.{length, getD}
-use Rattle.laws.specs.If.{ifLt, ifEq, ifB, by-lt, by-eq, by-b}
+use Rattle.laws.specs.If.{by-lt, by-eq, by-b}
 use Rattle.paper.specs.declared.Length.{Length}
 use Rattle.paper.specs.declared.Length.the-variants.{Wrong, Given, Until}
 use Rattle.paper.specs.declared.Reading.{Reading}
@@ -14,10 +14,10 @@ use Rattle.paper.specs.declared.Frame.{Frame}
 use Rattle.paper.specs.declared.Run.{Run}
 use Rattle.paper.specs.declared.Message.{Message}
 use Rattle.paper.specs.Sizes.{depths}
-use Rattle.paper.specs.Elements.{constructor, lengthAt, element, frameAt}
+use Rattle.paper.specs.Elements.{lengthAt, element, frameAt}
 use Rattle.paper.specs.Problems.{noProblem}
-use Rattle.paper.specs.Messages.{uniTag, beginTag, endTag, continueTag, abortTag, isSound, isDropped, noRun, idAt, originOf, past, destinationOf, Derived, derived, faultOf, soundOf, closes, closing, octetAt, componentsBy, componentsPart, abortPart, afterPortion, portionPart, inOrder, knownType, typed, byLength, messageOf}
-use Rattle.elements.specs.Bounds.{ReadingIn, FrameIn, element-in, frame-in}
+use Rattle.paper.specs.Messages.{beginTag, continueTag, isSound, isDropped, noRun, idAt, originOf, past, destinationOf, Derived, derived, faultOf, soundOf, closing, componentsBy, componentsPart, abortPart, afterPortion, portionPart, inOrder, byLength, messageOf}
+use Rattle.elements.specs.Bounds.{ReadingIn, element-in, frame-in}
 
 -- a run lies inside n octets
 abbrev pub RunIn : ℕ → Run → Type 0

@@ -1,8 +1,8 @@
 -- The definitions' steps, as the code takes them: with what it has at hand in the place of what the definition names. Assumes nothing.
-use mathlib.Core.Path.{_≡_, refl, sym, _∙_, ap}
+use mathlib.Core.Path.{_≡_, _∙_, ap}
 use mathlib.Core.Bool.{Bool, true, false}
 use mathlib.Core.List.{List}
-use Prim.Native.Nat.{ℕ, _+_, _-_, _/_, _%_, _<_, _≤_}
+use Prim.Native.Nat.{ℕ, _+_, _-_, _%_}
 use lib.ListN.{length, getD}
 use Rattle.laws.specs.If.{ifEq, ifB, eq, ne}
 use Rattle.paper.specs.declared.Length.{Length}

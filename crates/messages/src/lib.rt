@@ -1,7 +1,6 @@
 // A message read in order (01, "Coding" and "A received message"). indefinite: the outer length is 80, so 00 00 ends the message.
 ghost use mathlib.Core.Path.{_≡_};
-ghost use mathlib.Core.Bool.{Bool};
-ghost use Prim.Native.Nat.{ℕ, _+_, _-_, _<_, _≤_};
+ghost use Prim.Native.Nat.{_+_, _-_, _<_, _≤_};
 ghost use lib.ListN.{length};
 ghost use Rattle.paper.specs.Messages.{idAt, originOf, past, destinationOf, derived, faultOf, soundOf, closes, closing, octetAt, componentsBy, componentsPart};
 ghost use Rattle.paper.specs.Messages.{abortPart, afterPortion, portionPart, inOrder, knownType, byLength, messageOf};
@@ -14,6 +13,11 @@ use paper::Length;
 use paper::Message;
 use paper::Reading;
 use paper::Run;
+
+const NONE: Run = Run {
+    start: 0,
+    length: 0,
+};
 
 // The message so far: its type, and the IDs that are derivable.
 struct Seen {
@@ -35,41 +39,23 @@ fn id_at(s: &[u8], tag: u8, at: usize) -> Run
 {
     let n = s.len();
     if at > n {
-        return Run {
-            start: 0,
-            length: 0,
-        };
+        return NONE;
     }
     if n - at < 3 {
-        return Run {
-            start: 0,
-            length: 0,
-        };
+        return NONE;
     }
     if s[at] != tag {
-        return Run {
-            start: 0,
-            length: 0,
-        };
+        return NONE;
     }
     let l = wide(s[at + 1]);
     if l < 1 {
-        return Run {
-            start: 0,
-            length: 0,
-        };
+        return NONE;
     }
     if l > 4 {
-        return Run {
-            start: 0,
-            length: 0,
-        };
+        return NONE;
     }
     if n - at - 2 < l {
-        return Run {
-            start: 0,
-            length: 0,
-        };
+        return NONE;
     }
     Run {
         start: at + 2,
@@ -83,22 +69,13 @@ fn origin_of(s: &[u8], t: u8, b: usize) -> Run
     ensures within { λ r. ⌜ RunIn (length (now (s .entry))) r ⌝ }
 {
     if t == 0x61 {
-        return Run {
-            start: 0,
-            length: 0,
-        };
+        return NONE;
     }
     if t == 0x64 {
-        return Run {
-            start: 0,
-            length: 0,
-        };
+        return NONE;
     }
     if t == 0x67 {
-        return Run {
-            start: 0,
-            length: 0,
-        };
+        return NONE;
     }
     id_at(s, 0x48, b)
 }
@@ -121,16 +98,10 @@ fn destination_of(s: &[u8], t: u8, b: usize, origin: Run) -> Run
     ensures within { λ r. ⌜ RunIn (length (now (s .entry))) r ⌝ }
 {
     if t == 0x61 {
-        return Run {
-            start: 0,
-            length: 0,
-        };
+        return NONE;
     }
     if t == 0x62 {
-        return Run {
-            start: 0,
-            length: 0,
-        };
+        return NONE;
     }
     if t == 0x64 {
         return id_at(s, 0x49, b);
@@ -139,10 +110,7 @@ fn destination_of(s: &[u8], t: u8, b: usize, origin: Run) -> Run
         return id_at(s, 0x49, b);
     }
     if origin.length == 0 {
-        return Run {
-            start: 0,
-            length: 0,
-        };
+        return NONE;
     }
     let p = past(origin, b);
     id_at(s, 0x49, p)
@@ -168,10 +136,7 @@ fn fault_of(d: Seen, cause: u8) -> Message
 {
     let origin = d.origin;
     let destination = d.destination;
-    let portion = Run {
-        start: 0,
-        length: 0,
-    };
+    let portion = NONE;
     Message {
         tag: d.tag,
         fault: cause,
@@ -271,10 +236,7 @@ fn components_part(s: &[u8], indefinite: bool, d: Seen, portion: Run, p: usize) 
 fn abort_part(s: &[u8], indefinite: bool, d: Seen, p: usize) -> Message
     ensures { λ r. ⌜ r ≡ abortPart (now (s .entry)) indefinite (seen d) p ⌝ }
 {
-    let none = Run {
-        start: 0,
-        length: 0,
-    };
+    let none = NONE;
     if octet_at(s, p) != 0x4A {
         let m = sound_of(d, none, 0, 0, 65535);
         return closing(s, indefinite, p, d, m);
@@ -326,10 +288,7 @@ fn portion_part(s: &[u8], indefinite: bool, d: Seen, p: usize) -> Message
     if d.tag == 0x67 {
         return abort_part(s, indefinite, d, p);
     }
-    let none = Run {
-        start: 0,
-        length: 0,
-    };
+    let none = NONE;
     components_part(s, indefinite, d, none, p)
 }
 

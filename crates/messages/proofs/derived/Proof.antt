@@ -1,4 +1,3 @@
-use native.Mathlib.Omega.{arith}
 use Rattle.messages.specs.Steps.{derived-by}
 use borrow.Author.Needs.{needs}
 use Rattle.messages.proofs.derived.Statement.{statement}
