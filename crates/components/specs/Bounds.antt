@@ -1,13 +1,12 @@
 -- WHERE A COMPONENT THAT IS READ LIES, and how large its numbers are. Assumes nothing.
-use mathlib.Core.Path.{_≡_, refl, sym, _∙_, ap, subst}
+use mathlib.Core.Path.{_≡_, refl, sym, subst}
 use mathlib.Core.Bool.{Bool, true, false}
 use mathlib.Core.List.{List}
-use Prim.Native.Nat.{ℕ, zero, suc, _+_, _*_, _-_, _<_, _≤_}
+use Prim.Native.Nat.{ℕ, _+_, _-_, _<_, _≤_}
 use native.Mathlib.Omega.{arith}
 use lib.ListN.{getD}
-use lib.Dec.{eqb}
 use borrow.Author.Tests.{eqb-true}
-use Rattle.laws.specs.If.{ifLt, ifEq, ifB, yes, no, by-lt, by-eq, by-b, was-eq, was-ge}
+use Rattle.laws.specs.If.{ifEq, by-lt, by-eq, by-b}
 use Rattle.paper.specs.declared.Length.{Length}
 use Rattle.paper.specs.declared.Length.the-variants.{Wrong, Given, Until}
 use Rattle.paper.specs.declared.Reading.{Reading}
@@ -16,7 +15,7 @@ use Rattle.paper.specs.declared.Frame.{Frame}
 use Rattle.paper.specs.declared.Component.{Component}
 use Rattle.paper.specs.Sizes.{depths}
 use Rattle.paper.specs.Elements.{lengthAt, element, frameAt}
-use Rattle.paper.specs.Problems.{senderOf, byNobody, problem, noProblem}
+use Rattle.paper.specs.Problems.{problem, noProblem}
 use Rattle.paper.specs.Components.{noID, sound, faulty, single, someEnd, codeEnd, oneElement, lastPiece, invokePieces, resultBoth, resultPieces, problemAt, invokeProblem, rejectPieces, nullPieces, piecesAfter, pieces, readProblem, ifNested, framed, tagAt, componentAt}
 use Rattle.elements.specs.Bounds.{LengthIn, FrameIn, length-in, frame-in}
 

@@ -1,20 +1,20 @@
 -- The definitions' steps, as the code takes them: with what it has at hand in the place of what the definition names. Assumes nothing.
-use mathlib.Core.Path.{_≡_, refl, sym, _∙_, ap}
-use mathlib.Core.Bool.{Bool, true, false}
+use mathlib.Core.Path.{_≡_, sym, _∙_, ap}
+use mathlib.Core.Bool.{true, false}
 use mathlib.Core.List.{List}
 use Prim.Native.Nat.{ℕ, _+_, _*_, _-_, _<_, _≤_}
 use native.Mathlib.Omega.{arith}
 use lib.ListN.{getD}
 use lib.Dec.{eqb}
 use borrow.Author.Tests.{eq-eqb, ne-eqb}
-use Rattle.laws.specs.If.{ifLt, ifEq, ifB, lt, ge, eq, ne, yes, no, true-false}
+use Rattle.laws.specs.If.{ifEq, ge, eq, ne, yes, no, true-false}
 use Rattle.paper.specs.declared.Reading.{Reading}
 use Rattle.paper.specs.declared.Reading.the-variants.{Ends, Fault}
 use Rattle.paper.specs.declared.Frame.{Frame}
 use Rattle.paper.specs.declared.Component.{Component}
 use Rattle.paper.specs.Elements.{element, frameAt}
 use Rattle.paper.specs.Problems.{senderOf, problem, noProblem}
-use Rattle.paper.specs.Components.{noID, rejectTag, sound, faulty, single, codeEnd, oneElement, resultBoth, resultPieces, problemAt, invokeProblem, rejectPieces, knownTag, pieces, readProblem, ifNested, framed, tagAt, componentAt}
+use Rattle.paper.specs.Components.{noID, rejectTag, faulty, single, codeEnd, resultBoth, resultPieces, problemAt, invokeProblem, rejectPieces, knownTag, pieces, readProblem, ifNested, framed, tagAt, componentAt}
 use Rattle.components.specs.Bounds.{ComponentIn, nested, component-in}
 
 -- a problem, of its tag and code

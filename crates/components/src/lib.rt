@@ -1,8 +1,7 @@
 // One component read at a position of the message (01, "Coding" and, for the faults, the end of "Invocation states").
 // t is its tag, id its invoke ID, x where it stops; e is where its contents, or those of a 30 in it, end.
 ghost use mathlib.Core.Path.{_≡_};
-ghost use mathlib.Core.Bool.{Bool};
-ghost use Prim.Native.Nat.{ℕ, _+_, _*_, _-_, _<_, _≤_};
+ghost use Prim.Native.Nat.{_+_, _*_, _-_, _<_, _≤_};
 ghost use lib.ListN.{length};
 ghost use Rattle.paper.specs.Elements.{element, frameAt};
 ghost use Rattle.paper.specs.Components.{knownTag, sound, faulty, single, someEnd, codeEnd, oneElement, lastPiece, invokePieces, resultBoth, resultPieces};

@@ -1,13 +1,12 @@
 -- WHERE WHAT IS READ LIES: after its position, and by its limit. Assumes nothing.
 use mathlib.Core.Path.{_≡_, refl, sym, _∙_, ap, subst}
-use mathlib.Core.Bool.{Bool, true, false, cond}
+use mathlib.Core.Bool.{Bool, true, false}
 use mathlib.Core.List.{List}
-use Prim.Native.Nat.{ℕ, zero, suc, _+_, _*_, _-_, _/_, _%_, _<_, _≤_}
+use Prim.Native.Nat.{ℕ, zero, suc, _+_, _-_, _<_, _≤_}
 use native.Mathlib.Omega.{arith}
 use lib.ListN.{getD}
-use lib.Dec.{ltb, eqb}
 use borrow.Author.Tests.{eqb-true}
-use Rattle.laws.specs.If.{ifLt, ifEq, was-lt, by-lt, by-eq, true-false}
+use Rattle.laws.specs.If.{ifEq, was-lt, by-lt, by-eq, true-false}
 use Rattle.paper.specs.declared.Length.{Length}
 use Rattle.paper.specs.declared.Length.the-variants.{Wrong, Given, Until}
 use Rattle.paper.specs.declared.Head.{Head}

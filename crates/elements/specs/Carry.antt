@@ -3,7 +3,7 @@
 use mathlib.Core.Path.{_≡_, refl, sym, _∙_, ap, subst}
 use mathlib.Core.Bool.{Bool, true, false}
 use mathlib.Core.List.{List}
-use Prim.Native.Nat.{ℕ, zero, suc, _+_, _*_, _-_, _/_, _%_, _<_, _≤_}
+use Prim.Native.Nat.{ℕ, zero, suc, _+_, _-_, _<_, _≤_}
 use native.Mathlib.Omega.{arith}
 use lib.ListN.{getD}
 use lib.Dec.{eqb}
@@ -17,7 +17,7 @@ use Rattle.paper.specs.declared.Reading.{Reading}
 use Rattle.paper.specs.declared.Reading.the-variants.{Ends, Fault}
 use Rattle.paper.specs.declared.Frame.{Frame}
 use Rattle.paper.specs.Elements.{tagMore, tagEnd, lengthAt, constructor, headBy, headAt, ended, endAt, onwards, orNext, contents, byHead, element, frameTo, frameBy, frameAt}
-use Rattle.elements.specs.Bounds.{LengthIn, HeadIn, ReadingIn, ContentsIn, more-in, tag-in, length-in, head-in, contents-in, element-in, opens-in}
+use Rattle.elements.specs.Bounds.{LengthIn, HeadIn, ContentsIn, more-in, tag-in, length-in, head-in, contents-in, element-in, opens-in}
 use Rattle.elements.specs.Steps.{at-end, next}
 
 -- the octets from at up to e stand k further in t

@@ -1,10 +1,15 @@
 // A component's parameter (01, "Rows"): "that run of the received octets themselves, an empty one where there is none or no sound component".
 ghost use mathlib.Core.Path.{_≡_};
-ghost use Prim.Native.Nat.{ℕ, _+_, _≤_};
+ghost use Prim.Native.Nat.{_+_, _≤_};
 ghost use lib.ListN.{length};
 ghost use Rattle.paper.specs.Readers.{parameterOf, parameterAt, parameter};
 use paper::Component;
 use paper::Run;
+
+const NONE: Run = Run {
+    start: 0,
+    length: 0,
+};
 
 // The parameter of a component that was read and should stop at `stop`.
 fn parameter_of(stop: usize, c: Component) -> Run
@@ -13,22 +18,13 @@ fn parameter_of(stop: usize, c: Component) -> Run
     ensures within { λ r. ⌜ r .start + r .length ≤ c .parstop ⌝ }
 {
     if c.fault != 3 {
-        return Run {
-            start: 0,
-            length: 0,
-        };
+        return NONE;
     }
     if c.stop != stop {
-        return Run {
-            start: 0,
-            length: 0,
-        };
+        return NONE;
     }
     if c.parstop == 0 {
-        return Run {
-            start: 0,
-            length: 0,
-        };
+        return NONE;
     }
     Run {
         start: c.par,
@@ -43,16 +39,10 @@ pub fn parameter_at(s: &[u8], start: usize, len: usize) -> Run
 {
     let n = s.len();
     if start > n {
-        return Run {
-            start: 0,
-            length: 0,
-        };
+        return NONE;
     }
     if n - start < len {
-        return Run {
-            start: 0,
-            length: 0,
-        };
+        return NONE;
     }
     let c = components::component_at(s, start + len, start);
     parameter_of(start + len, c)

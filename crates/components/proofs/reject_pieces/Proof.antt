@@ -1,5 +1,5 @@
 use native.Mathlib.Omega.{arith}
-use mathlib.Core.Path.{refl, sym}
+use mathlib.Core.Path.{refl}
 use Rattle.laws.specs.If.{eq, ne}
 use Rattle.paper.specs.Components.{rejectPieces}
 use Rattle.components.specs.Steps.{reject-faulty}
