@@ -5,3 +5,4 @@ pub mod Pieces
 pub mod Kinds
 pub mod Listing
 pub mod Reading
+pub mod Order
