@@ -26,7 +26,7 @@ use Rattle.elements.specs.Carry.{element-carry, length-carry}
 use Rattle.readback.specs.Standing.{Has, has-head, has-tail, has-same, ShortTag, whole-head}
 
 -- AN ELEMENT BY ITSELF stays one wherever it stands, with as many depths left
-ended-at : (n : ℕ) (r : Reading) → endsAt n r ≡ true → Ends n ≡ r
+pub ended-at : (n : ℕ) (r : Reading) → endsAt n r ≡ true → Ends n ≡ r
 ended-at n (Ends e) h = ap Ends (sym (eqb-true e n h))
 ended-at n (Fault f) h = absurd (true-false (sym h))
 

@@ -19,8 +19,9 @@ use Rattle.paper.specs.Dialogues.{isElement}
 use Rattle.paper.specs.Writing.{lengthOctets, tlv, idThen, problemOctets}
 use Rattle.writing.specs.Lengths.{elementSize, element-length}
 use Rattle.readback.specs.Standing.{Has, Stands, has-head, has-tail, has-first, has-rest, has-at, ShortTag, Parts, done, more, begins, ends, octet-back, contents-back, holds-back, frame-back}
+use Rattle.readback.specs.Written.{ResultTag, placed}
 use Rattle.readback.specs.Given.{Code, code-first}
-use Rattle.readback.specs.Pieces.{Both, both-parts, both-code, both-some, both-par, placed, placed-none, placed-some, last-back, Reads, id-reads, single-back, single-element, null-element}
+use Rattle.readback.specs.Pieces.{Both, both-parts, both-code, both-some, both-par, placed-none, placed-some, last-back, Reads, id-reads, single-back, single-element, null-element}
 
 -- no element of one octet with that tag begins there
 no-single : (s : List ℕ) (t e p : ℕ) → (getD s p 0 ≡ t → ⊥) → noID ≡ single s t e p
@@ -60,9 +61,6 @@ module _ {s : List ℕ} {b e : ℕ} (id : ℕ) (op par : List ℕ) (small : id <
       (last-back g invokeTag id linked ∙ eq _ _ _ _ refl (ne _ _ _ _ (λ z. omega arith) (ap (λ (l : ℕ). lastPiece s invokeTag id l e e (codeEnd s e (b + 3 + 3))) i)))
 
 -- A RESULT, last or not last
-abbrev pub ResultTag : ℕ → Type 0
-ResultTag t = (t ≡ lastTag) ⊎ (t ≡ notLastTag)
-
 result-pieces : (s : List ℕ) (t id x e p : ℕ) → ResultTag t → resultPieces s t id x e p ≡ piecesAfter s t id x e p
 unfolding piecesAfter
 result-pieces s t id x e p tag =
@@ -100,3 +98,60 @@ module _ {s : List ℕ} {b e : ℕ} (t id : ℕ) (tag : ResultTag t) (small : id
       ∙ ap (λ (f : Frame). resultBoth s t id e (f .to) (codeEnd s (f .to) (f .from))) frame
       ∙ ne p e _ _ (λ z. omega arith) (eq _ _ _ _ (octet-back w) (yes _ _ _ (eq-eqb (frameAt s 15 e p .stop) e (sym stop ∙ whole)) refl))
       ∙ result-pieces s t id e e p tag)
+
+-- A REJECT, with one of the nineteen problems
+sent : (k c r : ℕ) → r ≡ senderOf k c → (r ≡ byNobody → ⊥) → k < 4
+unfolding senderOf
+sent k c r e n =
+    by-eq _ _ _ _ e (λ z _. omega arith)
+    (λ y e. by-eq _ _ _ _ e (λ z _. omega arith)
+    (λ y e. by-eq _ _ _ _ e (λ z _. omega arith)
+    (λ y e. by-eq _ _ _ _ e (λ z _. omega arith) (λ y e. absurd (n e)))))
+
+nobody : senderOfProblem noProblem ≡ byNobody
+unfolding senderOf ifEq
+nobody = refl
+
+module _ {s : List ℕ} {q e : ℕ} (p : ℕ) (by : senderOfProblem p ≡ byNobody → ⊥) (has : Has s q (problemOctets p)) (whole : q + 3 ≡ e) where
+  pub problem-back : p ≡ problemAt s e q
+  unfolding problemAt problemOctets
+  problem-back =
+      let k : getD s q 0 ≡ 0x80 + kindOf p = has-head has in
+      let one : getD s (q + 1) 0 ≡ 1 = has .octet 1 (omega arith) in
+      let c : getD s (q + 2) 0 ≡ codeOf p = has .octet 2 (omega arith) in
+      let kind : getD s q 0 - 0x80 ≡ kindOf p = omega arith in
+      let same : senderOf (getD s q 0 - 0x80) (getD s (q + 2) 0) ≡ senderOfProblem p = cc in
+      eq _ _ _ _ (omega arith) (ge _ _ _ _ (omega arith) (eq _ _ _ _ one (ne _ _ _ _ (λ z. by (sym same ∙ z)) (omega arith))))
+
+  pub problem-element : Ends (q + 3) ≡ element s 15 e q
+  unfolding problemOctets
+  problem-element =
+      let k : kindOf p < 4 = sent (kindOf p) (codeOf p) (senderOfProblem p) refl by in
+      single-element has e (omega arith) 15 (λ z. omega arith) ((λ z. omega arith), (λ z. omega arith)) (omega arith)
+
+  pub reject-pieces : (id : ℕ) → sound rejectTag id noID p e 0 0 ≡ rejectPieces s id e e q
+  unfolding rejectPieces
+  reject-pieces id =
+      ne _ _ _ _ (λ z. by (ap senderOfProblem (problem-back ∙ z) ∙ nobody)) (ap (λ (k : ℕ). sound rejectTag id noID k e 0 0) problem-back)
+
+module _ {s : List ℕ} {b e : ℕ} (p : ℕ) (by : senderOfProblem p ≡ byNobody → ⊥) where
+  pub reject-reads : (id : ℕ) → id < 256 → Has s b (idThen id (problemOctets p)) → b + 6 ≡ e → Reads s rejectTag b e (sound rejectTag id noID p e 0 0)
+  unfolding piecesAfter
+  reject-reads id small has whole =
+      let h3 : Has s (b + 3) (problemOctets p) = has-rest (2 ∷ 1 ∷ id ∷ []) (problemOctets p) has in
+      let z : b + 3 + 3 ≡ e = omega arith in
+      id-reads has (omega arith) small (more (problem-element p by h3 z) (done z))
+      (reject-pieces p by h3 z id ∙ ne _ _ _ _ (λ z. omega arith) (ne _ _ _ _ (λ z. omega arith) (eq _ _ _ _ refl refl)))
+
+  pub null-reads : Has s b (5 ∷ 0 ∷ problemOctets p) → b + 5 ≡ e → Reads s rejectTag b e (sound rejectTag noID noID p e 0 0)
+  unfolding pieces nullPieces
+  null-reads has whole =
+      let h2 : Has s (b + 2) (problemOctets p) = has-rest (5 ∷ 0 ∷ []) (problemOctets p) has in
+      let z : b + 2 + 3 ≡ e = omega arith in
+      let five = has-head has in
+      record {
+        parts = more (null-element s e b has (omega arith) 15 (λ z. omega arith)) (more (problem-element p by h2 z) (done z));
+        is = reject-pieces p by h2 z noID
+            ∙ eq _ _ _ _ (sym (no-single s 2 e b (λ z. omega arith))) (eq _ _ _ _ refl
+            (ge _ _ _ _ (omega arith) (eq _ _ _ _ five (eq _ _ _ _ (has .octet 1 (omega arith)) refl))));
+      }

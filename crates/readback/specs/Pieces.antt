@@ -25,7 +25,9 @@ use Rattle.paper.specs.Components.{invokeTag, lastTag, errorTag, rejectTag, not
 use Rattle.paper.specs.Dialogues.{isElement}
 use Rattle.paper.specs.Writing.{lengthOctets, tlv}
 use Rattle.elements.specs.Steps.{by-head}
-use Rattle.readback.specs.Standing.{Has, Stands, short-element, has-head, has-tail, has-first, has-rest, has-at, ShortTag, whole-head, Parts, done, more, begins, ends, octet-back, holds-back, frame-back}
+use Rattle.writing.specs.Lengths.{elementSize, element-length}
+use Rattle.readback.specs.Standing.{Has, Stands, short-element, has-head, has-tail, has-first, has-rest, has-at, ShortTag, whole-head, Parts, done, more, begins, ends, octet-back, contents-back, holds-back, frame-back}
+use Rattle.readback.specs.Written.{placed}
 use Rattle.readback.specs.Given.{Code, element-copied, ends-frame, code-copied, code-element}
 
 -- AN ELEMENT OF ONE OCTET, `t 01 v`
@@ -72,10 +74,7 @@ module _ {s : List ℕ} {p e d : ℕ} {op par : List ℕ} (g : Both s p e d op p
   pub both-par : (length par ≡ 0 → ⊥) → oneElement s d e (p + length op) ≡ true
   both-par some = eq-eqb (frameAt s d e (p + length op) .stop) e (ends-frame s d e (p + length op) (p + length op + length par) (par-element some) ∙ g .whole)
 
--- A SOUND COMPONENT that ends at x, with its parameter, of n octets, at its end
-abbrev pub placed : ℕ → ℕ → ℕ → ℕ → ℕ → ℕ → Component
-placed t id linked p x n = sound t id linked p x (ifEq n 0 0 (x - n)) (ifEq n 0 0 x)
-
+-- a parameter's place
 module _ (t id linked p x n : ℕ) where
   pub placed-none : n ≡ 0 → placed t id linked p x n ≡ sound t id linked p x 0 0
   placed-none h =
@@ -102,6 +101,10 @@ module _ {s : List ℕ} {p e : ℕ} {op par : List ℕ} (g : Both s p e 15 op pa
 pub record Reads (s : List ℕ) (t b e : ℕ) (x : Component) : Type 0 where
   pub parts : Parts s 15 e b
   pub is : x ≡ pieces s t e e b
+
+-- a component's tag
+abbrev pub Tagged : ℕ → Type 0
+Tagged t = ShortTag t × (constructor t ≡ 1) × (knownTag t ≡ true)
 
 -- THE COMPONENT, of its pieces
 module _ {s : List ℕ} {lim at t : ℕ} {c : List ℕ} (w : Stands s lim at t c) where
@@ -133,3 +136,14 @@ id-reads {s} {t} {b} {e} {id} {rest} has room small parts is =
       parts = more (single-element has e room 15 (λ z. omega arith) ((λ z. omega arith), (λ z. omega arith)) refl) parts;
       is = is ∙ ne _ _ _ _ (λ z. omega arith) (ap (λ (i : ℕ). piecesAfter s t i e e (b + 3)) i);
     }
+
+-- THE COMPONENT, of the octets that it was written as
+pub glue : {s : List ℕ} {lim at : ℕ} (t : ℕ) (c : List ℕ) (f : ℕ → Component) → Tagged t → Has s at (tlv t c) → length (tlv t c) < 65536 → at + length (tlv t c) ≤ lim
+    → ((b e : ℕ) → Has s b c → b + length c ≡ e → Reads s t b e (f e))
+    → (Ends (at + length (tlv t c)) ≡ element s depths lim at) × (f (at + length (tlv t c)) ≡ componentAt s lim at)
+glue {s} {lim} {at} t c f g has fits room reads =
+    let size : length (tlv t c) ≡ elementSize (length c) = element-length t c in
+    let w : Stands s lim at t c = record { has = has; short = g .0; fits = omega arith; room = omega arith } in
+    let z : at + length (tlv t c) ≡ ends at (length c) = omega arith in
+    let r = reads (begins at (length c)) (ends at (length c)) (contents-back w) refl in
+    (ap Ends z ∙ component-element w (g .1) r, ap f z ∙ component-back w (g .1) (g .2) r)

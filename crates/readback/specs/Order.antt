@@ -1,0 +1,253 @@
+-- Each message as it was written, read: its IDs in order, then what follows them. Assumes nothing.
+use native.Mathlib.Omega.{arith}
+use Prim.Native.Nat.{ℕ, zero, suc, _+_, _-_, _%_, _<_, _≤_}
+use mathlib.Core.Path.{_≡_, refl, sym, _∙_, ap, subst}
+use mathlib.Core.Bool.{Bool, true, false}
+use mathlib.Core.List.{List, [], _∷_, _++_}
+use lib.ListN.{length, getD, length-append}
+use Rattle.laws.specs.If.{ifEq, eq, ne}
+use Rattle.paper.specs.declared.Run.{Run}
+use Rattle.paper.specs.declared.Message.{Message}
+use Rattle.paper.specs.Elements.{constructor}
+use Rattle.paper.specs.Problems.{noProblem}
+use Rattle.paper.specs.Messages.{uniTag, beginTag, endTag, continueTag, abortTag, noRun, idAt, originOf, past, destinationOf, Derived, derived, faultOf, soundOf, portionPart, inOrder, knownType, messageOf}
+use Rattle.paper.specs.Dialogues.{isPortion}
+use Rattle.paper.specs.Calls.{octetsAt}
+use Rattle.paper.specs.Writing.{lengthOctets, tlv, componentsOctets, beginOctets, continueOctets, endOctets, uniOctets, userAbortOctets, causeAbortOctets}
+use Rattle.writing.specs.Heads.{componentsHead, components-joined}
+use Rattle.writing.specs.Lengths.{elementSize, element-length, id-length}
+use Rattle.readback.specs.Standing.{Has, has-first, has-rest, has-at, ShortTag, begins, ends, octet-back, contents-back}
+use Rattle.readback.specs.Written.{Back}
+use Rattle.readback.specs.Reading.{run, fromOf, toOf, has-octets, id-back, id-has, derived-as, outer-stands, outer-back, end-octets, components-part, components-has, user-part, cause-part}
+
+-- an ID that was read, and where the octets after it begin
+past-back : (b p n : ℕ) → 1 ≤ n → p + 2 + n ≡ past (run (p + 2) n) b
+past-back b p n some = ne n 0 b (p + 2 + n) (λ z. omega arith) refl
+
+-- A MESSAGE of tag t whose contents begin with an ID, 48 or 49 (k), and what follows it
+record First (t k : ℕ) (id rest : List ℕ) : Type 0 where
+  short : ShortTag t
+  some : 1 ≤ length id
+  few : length id ≤ 4
+  fits : length (tlv k id ++ rest) < 65536
+
+-- where its contents begin
+abbrev pub starts : List ℕ → ℕ
+starts c = begins 0 (length c)
+
+module _ {t k : ℕ} {id rest : List ℕ} (f : First t k id rest) where
+  abbrev s : List ℕ
+  s = tlv t (tlv k id ++ rest)
+
+  abbrev b : ℕ
+  b = starts (tlv k id ++ rest)
+
+  sizes : (length (tlv k id) ≡ 2 + length id) × (length s ≡ b + 2 + length id + length rest)
+  sizes = let i = id-length k id (omega arith) in (i, omega (arith, element-length t (tlv k id ++ rest), length-append (tlv k id) rest))
+
+  first-tag : getD s 0 0 ≡ t
+  first-tag = octet-back (outer-stands t (tlv k id ++ rest) (f .short) (f .fits))
+
+  first-contents : Has s b (tlv k id ++ rest)
+  first-contents = contents-back (outer-stands t (tlv k id ++ rest) (f .short) (f .fits))
+
+  first-id : run (b + 2) (length id) ≡ idAt s k b
+  first-id = let n = sizes in id-back k id (has-first (tlv k id) rest first-contents) (f .some) (f .few) (omega arith)
+
+  first-octets : octetsAt s (run (b + 2) (length id)) ≡ id
+  first-octets = let n = sizes in has-octets (id-has k id (has-first (tlv k id) rest first-contents) (f .some) (f .few) (omega arith)) (omega arith)
+
+  first-rest : Has s (b + 2 + length id) rest
+  first-rest = let n = sizes in has-at (has-rest (tlv k id) rest first-contents) (omega arith)
+
+  first-whole : b + 2 + length id + length rest ≡ length s
+  first-whole = let n = sizes in omega arith
+
+-- THE DESTINATION ID FIRST (End, Abort)
+module _ {t : ℕ} {peer rest : List ℕ} (f : First t 0x49 peer rest) where
+  abbrev toPeer : Derived
+  toPeer = record { tag = t; origin = noRun; destination = run (starts (tlv 0x49 peer ++ rest) + 2) (length peer) }
+
+  peer-first : knownType t ≡ true → (t ≡ uniTag → ⊥) → (t ≡ beginTag → ⊥) → noRun ≡ originOf (s f) t (b f) → idAt (s f) 0x49 (b f) ≡ destinationOf (s f) t (b f) noRun
+      → (m : Message) → m ≡ portionPart (s f) false toPeer (b f + 2 + length peer) → messageOf (s f) ≡ m
+  unfolding inOrder
+  peer-first known other begin first second m is =
+      sym
+      (outer-back t (tlv 0x49 peer ++ rest) (f .short) (f .fits) known toPeer refl
+      (derived-as (s f) t (b f) noRun (run (b f + 2) (length peer)) (first-tag f) first (first-id f ∙ second))
+      (is ∙ ap (portionPart (s f) false toPeer) (past-back (b f) (b f) (length peer) (f .some))
+      ∙ ne _ _ _ _ other (ne _ _ _ _ begin (ne _ _ _ _ (λ z. omega (arith, f .some)) refl))))
+
+-- components are no longer than the 6C that holds them, nor contents than their element
+components-fit : (cs : List ℕ) → length cs ≤ length (componentsOctets cs)
+components-fit cs = omega (arith, ap length (components-joined cs), length-append (componentsHead (length cs)) cs)
+
+contents-fit : (t : ℕ) (c : List ℕ) → length (tlv t c) < 65536 → length c < 65536
+contents-fit t c h = omega (arith, element-length t c)
+
+-- THE MESSAGES
+module _ (peer : List ℕ) (some : 1 ≤ length peer) (few : length peer ≤ 4) where
+  pub end-back : (cs : List ℕ) → length (endOctets peer cs) < 65536
+      → (let s = endOctets peer cs in
+      Back s (soundOf (record { tag = endTag; origin = noRun; destination = run (starts (tlv 0x49 peer ++ componentsOctets cs) + 2) (length peer) })
+      noRun (fromOf (length s) (length cs)) (toOf (length s) (length cs)) noProblem) [] peer [] cs)
+  unfolding endOctets knownType originOf destinationOf
+  end-back cs h =
+      let rest : List ℕ = componentsOctets cs in
+      let f : First endTag 0x49 peer rest =
+      record { short = ((λ z. omega arith), (λ z. omega arith)); some = some; few = few; fits = contents-fit endTag (tlv 0x49 peer ++ rest) h } in
+      let small : length cs < 65536 = omega (arith, f .fits, components-fit cs, length-append (tlv 0x49 peer) rest) in
+      let at = components-has cs (first-rest f) (first-whole f) small in
+      record {
+        is = peer-first f (sym (ne _ _ _ _ (λ z. omega arith) (ne _ _ _ _ (λ z. omega arith) (eq _ _ _ _ refl refl)))) (λ z. omega arith) (λ z. omega arith)
+            (ne _ _ _ _ (λ z. omega arith) (eq _ _ _ _ refl refl))
+            (ne _ _ _ _ (λ z. omega arith) (ne _ _ _ _ (λ z. omega arith) (eq _ _ _ _ refl refl)))
+            _ (components-part cs (first-rest f) (first-whole f) small _ (λ z. omega arith) (λ _ z. omega arith));
+        origin = refl;
+        destination = first-octets f;
+        portion = refl;
+        components = at .0;
+        ends = at .1;
+      }
+
+  -- an Abort's tests: 67 has no originating ID, and its destination ID comes first
+  abort-first : {rest : List ℕ} (f : First abortTag 0x49 peer rest) (m : Message) → m ≡ portionPart (s f) false (toPeer f) (b f + 2 + length peer) → messageOf (s f) ≡ m
+  unfolding knownType originOf destinationOf ifEq
+  abort-first f m is = peer-first f refl (λ z. omega arith) (λ z. omega arith) refl refl m is
+
+  pub user-abort-back : (user : List ℕ) → isPortion user ≡ true → length (userAbortOctets peer user) < 65536
+      → (let s = userAbortOctets peer user in
+      Back s (soundOf (record { tag = abortTag; origin = noRun; destination = run (starts (tlv 0x49 peer ++ user) + 2) (length peer) })
+      (run (fromOf (length s) (length user)) (length user)) 0 0 noProblem) [] peer user [])
+  unfolding userAbortOctets
+  user-abort-back user formed h =
+      let f : First abortTag 0x49 peer user =
+      record { short = ((λ z. omega arith), (λ z. omega arith)); some = some; few = few; fits = contents-fit abortTag (tlv 0x49 peer ++ user) h } in
+      record {
+        is = abort-first f _ (user-part user (first-rest f) (first-whole f) formed (toPeer f) refl);
+        origin = refl;
+        destination = first-octets f;
+        portion = end-octets (first-rest f) (first-whole f);
+        components = record { octet = λ i h. absurd (omega arith) };
+        ends = refl;
+      }
+
+  pub cause-abort-back : (cause : ℕ) → cause < 5
+      → (let s = causeAbortOctets peer cause in
+      Back s (soundOf (record { tag = abortTag; origin = noRun; destination = run (starts (tlv 0x49 peer ++ (0x4A ∷ 1 ∷ cause ∷ [])) + 2) (length peer) }) noRun 0 0 cause) [] peer [] [])
+  unfolding causeAbortOctets
+  cause-abort-back cause small =
+      let f : First abortTag 0x49 peer (0x4A ∷ 1 ∷ cause ∷ []) = record {
+        short = ((λ z. omega arith), (λ z. omega arith));
+        some = some;
+        few = few;
+        fits = omega (arith, id-length 0x49 peer (omega arith), length-append (tlv 0x49 peer) (0x4A ∷ 1 ∷ cause ∷ []));
+      } in
+      record {
+        is = abort-first f _ (cause-part cause small (first-rest f) (first-whole f) (toPeer f) refl);
+        origin = refl;
+        destination = first-octets f;
+        portion = refl;
+        components = record { octet = λ i h. absurd (omega arith) };
+        ends = refl;
+      }
+
+-- THE ORIGINATING ID FIRST
+module _ (own : List ℕ) (some : 1 ≤ length own) (few : length own ≤ 4) where
+  pub begin-back : (cs : List ℕ) → length (beginOctets own cs) < 65536
+      → (let s = beginOctets own cs in
+      Back s (soundOf (record { tag = beginTag; origin = run (starts (tlv 0x48 own ++ componentsOctets cs) + 2) (length own); destination = noRun })
+      noRun (fromOf (length s) (length cs)) (toOf (length s) (length cs)) noProblem) own [] [] cs)
+  unfolding beginOctets knownType originOf destinationOf inOrder
+  begin-back cs h =
+      let rest : List ℕ = componentsOctets cs in
+      let f : First beginTag 0x48 own rest =
+      record { short = ((λ z. omega arith), (λ z. omega arith)); some = some; few = few; fits = contents-fit beginTag (tlv 0x48 own ++ rest) h } in
+      let o : Run = run (b f + 2) (length own) in
+      let D : Derived = record { tag = beginTag; origin = o; destination = noRun } in
+      let small : length cs < 65536 = omega (arith, f .fits, components-fit cs, length-append (tlv 0x48 own) rest) in
+      let at = components-has cs (first-rest f) (first-whole f) small in
+      let first : o ≡ originOf (s f) beginTag (b f) = first-id f ∙ ne _ _ _ _ (λ z. omega arith) (ne _ _ _ _ (λ z. omega arith) (ne _ _ _ _ (λ z. omega arith) refl)) in
+      let second : noRun ≡ destinationOf (s f) beginTag (b f) o = ne _ _ _ _ (λ z. omega arith) (eq _ _ _ _ refl refl) in
+      record {
+        is = sym
+            (outer-back beginTag (tlv 0x48 own ++ rest) (f .short) (f .fits) (sym (ne _ _ _ _ (λ z. omega arith) (eq _ _ _ _ refl refl))) D refl
+            (derived-as (s f) beginTag (b f) o noRun (first-tag f) first second)
+            (components-part cs (first-rest f) (first-whole f) small D (λ z. omega arith) (λ _ z. omega arith)
+            ∙ ap (portionPart (s f) false D) (past-back (b f) (b f) (length own) some)
+            ∙ ne _ _ _ _ (λ z. omega arith) (eq _ _ _ _ refl (ne _ _ _ _ (λ z. omega arith) refl))));
+        origin = first-octets f;
+        destination = refl;
+        portion = refl;
+        components = at .0;
+        ends = at .1;
+      }
+
+  pub continue-back : (peer : List ℕ) → 1 ≤ length peer → length peer ≤ 4 → (cs : List ℕ) → length (continueOctets own peer cs) < 65536
+      → (let s = continueOctets own peer cs in let b = starts (tlv 0x48 own ++ (tlv 0x49 peer ++ componentsOctets cs)) in
+      Back s (soundOf (record { tag = continueTag; origin = run (b + 2) (length own); destination = run (b + 2 + length own + 2) (length peer) })
+      noRun (fromOf (length s) (length cs)) (toOf (length s) (length cs)) noProblem) own peer [] cs)
+  unfolding continueOctets knownType originOf destinationOf inOrder
+  continue-back peer least most cs h =
+      let after : List ℕ = componentsOctets cs in
+      let rest : List ℕ = tlv 0x49 peer ++ after in
+      let f : First continueTag 0x48 own rest =
+      record { short = ((λ z. omega arith), (λ z. omega arith)); some = some; few = few; fits = contents-fit continueTag (tlv 0x48 own ++ rest) h } in
+      let o : Run = run (b f + 2) (length own) in
+      let p : ℕ = b f + 2 + length own in
+      let d : Run = run (p + 2) (length peer) in
+      let D : Derived = record { tag = continueTag; origin = o; destination = d } in
+      let size : length (tlv 0x49 peer) ≡ 2 + length peer = id-length 0x49 peer (omega arith) in
+      let sum = length-append (tlv 0x49 peer) after in
+      let all = first-whole f in
+      let small : length cs < 65536 = omega (arith, f .fits, components-fit cs, length-append (tlv 0x48 own) rest) in
+      let h49 : Has (s f) p (tlv 0x49 peer) = has-first (tlv 0x49 peer) after (first-rest f) in
+      let hcs : Has (s f) (p + 2 + length peer) after = has-at (has-rest (tlv 0x49 peer) after (first-rest f)) (omega arith) in
+      let whole : p + 2 + length peer + length after ≡ length (s f) = omega arith in
+      let at = components-has cs hcs whole small in
+      let first : o ≡ originOf (s f) continueTag (b f) = first-id f ∙ ne _ _ _ _ (λ z. omega arith) (ne _ _ _ _ (λ z. omega arith) (ne _ _ _ _ (λ z. omega arith) refl)) in
+      let second : d ≡ destinationOf (s f) continueTag (b f) o =
+      id-back 0x49 peer h49 least most (omega arith)
+      ∙ ap (idAt (s f) 0x49) (past-back (b f) (b f) (length own) some)
+      ∙ ne _ _ _ _ (λ z. omega arith) (ne _ _ _ _ (λ z. omega arith) (ne _ _ _ _ (λ z. omega arith) (ne _ _ _ _ (λ z. omega arith) (ne _ _ _ _ (λ z. omega arith) refl)))) in
+      record {
+        is = sym
+            (outer-back continueTag (tlv 0x48 own ++ rest) (f .short) (f .fits)
+            (sym (ne _ _ _ _ (λ z. omega arith) (ne _ _ _ _ (λ z. omega arith) (ne _ _ _ _ (λ z. omega arith) (eq _ _ _ _ refl refl))))) D refl
+            (derived-as (s f) continueTag (b f) o d (first-tag f) first second)
+            (components-part cs hcs whole small D (λ z. omega arith) (λ _ z. omega arith)
+            ∙ ap (portionPart (s f) false D) (past-back (b f) p (length peer) least)
+            ∙ ne _ _ _ _ (λ z. omega arith) (ne _ _ _ _ (λ z. omega arith) (ne _ _ _ _ (λ z. omega arith) refl))));
+        origin = first-octets f;
+        destination = has-octets (id-has 0x49 peer h49 least most (omega arith)) (omega arith);
+        portion = refl;
+        components = at .0;
+        ends = at .1;
+      }
+
+-- A UNIDIRECTIONAL, which needs components
+pub uni-back : (cs : List ℕ) → (length cs ≡ 0 → ⊥) → length (uniOctets cs) < 65536
+    → (let s = uniOctets cs in
+    Back s (soundOf (record { tag = uniTag; origin = noRun; destination = noRun }) noRun (fromOf (length s) (length cs)) (toOf (length s) (length cs)) noProblem) [] [] [] cs)
+unfolding uniOctets knownType originOf destinationOf inOrder
+uni-back cs some h =
+    let rest : List ℕ = componentsOctets cs in
+    let s : List ℕ = tlv uniTag rest in
+    let short : ShortTag uniTag = ((λ z. omega arith), (λ z. omega arith)) in
+    let fits : length rest < 65536 = contents-fit uniTag rest h in
+    let small : length cs < 65536 = omega (arith, components-fit cs) in
+    let has : Has s (starts rest) rest = contents-back (outer-stands uniTag rest short fits) in
+    let whole : starts rest + length rest ≡ length s = omega (arith, element-length uniTag rest) in
+    let at = components-has cs has whole small in
+    let D : Derived = record { tag = uniTag; origin = noRun; destination = noRun } in
+    record {
+      is = sym
+          (outer-back uniTag rest short fits (sym (eq _ _ _ _ refl refl)) D refl
+          (derived-as s uniTag (starts rest) noRun noRun (octet-back (outer-stands uniTag rest short fits)) (eq _ _ _ _ refl refl) (eq _ _ _ _ refl refl))
+          (components-part cs has whole small D (λ z. omega arith) (λ z _. some z) ∙ eq _ _ _ _ refl refl));
+      origin = refl;
+      destination = refl;
+      portion = refl;
+      components = at .0;
+      ends = at .1;
+    }

@@ -1,0 +1,75 @@
+-- WHAT IS WRITTEN, AND AS WHAT IT IS TO BE READ (01, "Coding"). Assumes nothing.
+use Prim.Native.Nat.{ℕ, zero, suc, _+_, _-_, _<_, _≤_}
+use mathlib.Core.Path.{_≡_}
+use mathlib.Core.Bool.{Bool, true}
+use mathlib.Core.Logic.{_⊎_}
+use mathlib.Core.List.{List, [], _∷_, _++_}
+use lib.ListN.{length}
+use Rattle.laws.specs.If.{ifEq}
+use Rattle.paper.specs.declared.Component.{Component}
+use Rattle.paper.specs.declared.Message.{Message}
+use Rattle.paper.specs.Problems.{senderOfProblem, byNobody, noProblem}
+use Rattle.paper.specs.Components.{invokeTag, lastTag, errorTag, rejectTag, notLastTag, noID, sound, Item}
+use Rattle.paper.specs.Messages.{messageOf}
+use Rattle.paper.specs.Dialogues.{isCode, isParameter, isResult}
+use Rattle.paper.specs.Calls.{octetsAt}
+use Rattle.paper.specs.Writing.{invokeOctets, resultOctets, errorOctets, rejectOctets}
+use Rattle.readback.specs.Standing.{Has}
+
+-- A COMPONENT, by its parts: invoke ID, linked ID (256 none), operation, parameter; tag, invoke ID, operation, parameter; invoke
+-- ID, error, parameter; invoke ID (256 none), problem as in a row
+pub data Written : Type 0 where
+  Invoke : ℕ → ℕ → List ℕ → List ℕ → Written
+  Result : ℕ → ℕ → List ℕ → List ℕ → Written
+  Error : ℕ → List ℕ → List ℕ → Written
+  Reject : ℕ → ℕ → Written
+
+unfoldable pub octetsOf : Written → List ℕ
+octetsOf (Invoke id linked op par) = invokeOctets id linked op par
+octetsOf (Result tag id op par) = resultOctets tag id op par
+octetsOf (Error id err par) = errorOctets id err par
+octetsOf (Reject id p) = rejectOctets id p
+
+-- "A2 result last, A7 result not last"
+abbrev pub ResultTag : ℕ → Type 0
+ResultTag t = (t ≡ lastTag) ⊎ (t ≡ notLastTag)
+
+-- parts that the rules allow: those that answer 11 lets through; IDs of one octet; one of the nineteen problems
+abbrev pub Allowed : Written → Type 0
+Allowed (Invoke id linked op par) = (id < 256) × (linked ≤ noID) × (isCode op ≡ true) × (isParameter par ≡ true)
+Allowed (Result tag id op par) = ResultTag tag × (id < 256) × (isResult op par ≡ true)
+Allowed (Error id err par) = (id < 256) × (isCode err ≡ true) × (isParameter par ≡ true)
+Allowed (Reject id p) = (id ≤ noID) × (senderOfProblem p ≡ byNobody → ⊥)
+
+-- a sound component that ends at x, with its parameter, of n octets, at its end
+abbrev pub placed : ℕ → ℕ → ℕ → ℕ → ℕ → ℕ → Component
+placed t id linked p x n = sound t id linked p x (ifEq n 0 0 (x - n)) (ifEq n 0 0 x)
+
+-- as what it is to be read, where it ends at x
+unfoldable pub readAs : Written → ℕ → Component
+readAs (Invoke id linked op par) x = placed invokeTag id linked noProblem x (length par)
+readAs (Result tag id op par) x = placed tag id noID noProblem x (length par)
+readAs (Error id err par) x = placed errorTag id noID noProblem x (length par)
+readAs (Reject id p) x = placed rejectTag id noID p x 0
+
+-- COMPONENTS one after another
+unfoldable pub joined : List Written → List ℕ
+joined [] = []
+joined (w ∷ ws) = octetsOf w ++ joined ws
+
+abbrev pub AllAllowed : List Written → Type 0
+AllAllowed [] = Unit
+AllAllowed (w ∷ ws) = Allowed w × AllAllowed ws
+
+unfoldable pub itemsFrom : ℕ → List Written → List Item
+itemsFrom at [] = []
+itemsFrom at (w ∷ ws) = record { start = at; part = readAs w (at + length (octetsOf w)) } ∷ itemsFrom (at + length (octetsOf w)) ws
+
+-- A MESSAGE s that is read as m, whose IDs, dialogue portion and components are the octets put in
+pub record Back (s : List ℕ) (m : Message) (own peer user cs : List ℕ) : Type 0 where
+  pub is : messageOf s ≡ m
+  pub origin : octetsAt s (m .origin) ≡ own
+  pub destination : octetsAt s (m .destination) ≡ peer
+  pub portion : octetsAt s (m .portion) ≡ user
+  pub components : Has s (m .from) cs
+  pub ends : m .from + length cs ≡ m .to
