@@ -9,7 +9,7 @@ ghost use lib.ListN.{length, getD, replicate, take, drop};
 ghost use lib.Seq.{sets};
 ghost use Rattle.laws.specs.Lists.{span};
 ghost use Rattle.laws.specs.Parts.{over};
-ghost use Rattle.paper.specs.Sizes.{nextTurn};
+ghost use Rattle.paper.specs.Sizes.{localID, nextTurn};
 ghost use Rattle.paper.specs.Dialogues.{withControl, freed};
 ghost use Rattle.paper.specs.Shares.{free};
 ghost use Rattle.paper.specs.Calls.{placeAt, withPlace, isDialogue, owns, held, lowestFree};
@@ -153,6 +153,14 @@ pub fn turn_at(t: &[u8], p: usize) -> u32
 {
     let a = 48 + p * 284;
     turn_of(t[a], t[a + 1], t[a + 2])
+}
+
+// "The local ID is four octets: the place (0 to 127), then its turn in three, high first."
+pub fn id_at(t: &[u8], p: usize) -> u32
+    requires { ⌜ (p < 128) × (length (now t) ≡ 36400) ⌝ }
+    ensures { λ r. ⌜ r ≡ localID p (placeAt (view (now (t .entry))) p .control .turn) ⌝ }
+{
+    (p as u32) * 16777216 + turn_at(t, p)
 }
 
 // How many octets wait at place p.
