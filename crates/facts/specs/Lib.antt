@@ -8,3 +8,5 @@ pub mod Ready
 pub mod Counts
 pub mod Stores
 pub mod Owners
+pub mod Changes
+pub mod Storables

@@ -1,2 +1,2 @@
-pub mod Literal
+pub mod Made
 pub mod Storing

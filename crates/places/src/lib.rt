@@ -9,7 +9,7 @@ ghost use lib.ListN.{length, getD, replicate, take, drop};
 ghost use lib.Seq.{sets};
 ghost use Rattle.laws.specs.Lists.{span};
 ghost use Rattle.laws.specs.Parts.{over};
-ghost use Rattle.paper.specs.Sizes.{nextTurn};
+ghost use Rattle.paper.specs.Sizes.{localID, nextTurn};
 ghost use Rattle.paper.specs.Dialogues.{withControl, freed};
 ghost use Rattle.paper.specs.Shares.{free};
 ghost use Rattle.paper.specs.Calls.{placeAt, withPlace, isDialogue, owns, held, lowestFree};
@@ -18,7 +18,7 @@ ghost use Rattle.facts.specs.Fine.{Storable};
 ghost use Rattle.facts.specs.Octets.{controlOctets};
 ghost use Rattle.facts.specs.Ready.{Ready};
 ghost use Rattle.places.specs.Storing.{Storing, withWaiting};
-ghost use Rattle.places.specs.Literal.{headOctets, invocationsFrom, rejectsFrom};
+ghost use Rattle.places.specs.Made.{headOctets, pairs, invocationID, invocationMark, rejectID, rejectMark};
 
 // ---- numbers of octets
 fn wide(x: u8) -> usize
@@ -155,6 +155,14 @@ pub fn turn_at(t: &[u8], p: usize) -> u32
     turn_of(t[a], t[a + 1], t[a + 2])
 }
 
+// "The local ID is four octets: the place (0 to 127), then its turn in three, high first."
+pub fn id_at(t: &[u8], p: usize) -> u32
+    requires { ⌜ (p < 128) × (length (now t) ≡ 36400) ⌝ }
+    ensures { λ r. ⌜ r ≡ localID p (placeAt (view (now (t .entry))) p .control .turn) ⌝ }
+{
+    (p as u32) * 16777216 + turn_at(t, p)
+}
+
 // How many octets wait at place p.
 pub fn waiting_length(t: &[u8], p: usize) -> usize
     requires { ⌜ Ready (now t) × (p < 128) ⌝ }
@@ -268,52 +276,49 @@ fn head_octets(c: Control, n: u8) -> [u8; 12]
     ]
 }
 
-fn invocation_octets(l: [Invocation; 8]) -> [u8; 16]
-    ensures { λ r. ⌜ r ≡ invocationsFrom 8 0 l ⌝ }
+// Two octets, one after the other.
+fn put_pair(t: &mut [u8], at: usize, a: u8, b: u8)
+    requires { ⌜ at + 2 ≤ length (now t) ⌝ }
+    ensures { λ r. ⌜ now (t .exit) ≡ sets (now (t .entry)) at (a ∷ b ∷ []) ⌝ }
 {
-    [
-        l[0].id,
-        l[0].state % 8 + l[0].class % 8 * 8 + l[0].shown % 4 * 64,
-        l[1].id,
-        l[1].state % 8 + l[1].class % 8 * 8 + l[1].shown % 4 * 64,
-        l[2].id,
-        l[2].state % 8 + l[2].class % 8 * 8 + l[2].shown % 4 * 64,
-        l[3].id,
-        l[3].state % 8 + l[3].class % 8 * 8 + l[3].shown % 4 * 64,
-        l[4].id,
-        l[4].state % 8 + l[4].class % 8 * 8 + l[4].shown % 4 * 64,
-        l[5].id,
-        l[5].state % 8 + l[5].class % 8 * 8 + l[5].shown % 4 * 64,
-        l[6].id,
-        l[6].state % 8 + l[6].class % 8 * 8 + l[6].shown % 4 * 64,
-        l[7].id,
-        l[7].state % 8 + l[7].class % 8 * 8 + l[7].shown % 4 * 64,
-    ]
+    t[at] = a;
+    t[at + 1] = b;
 }
 
-fn reject_octets(a: Reject, b: Reject, c: Reject, d: Reject) -> [u8; 8]
-    ensures { λ r. ⌜ r ≡ rejectsFrom 4 0 (a ∷ b ∷ c ∷ d ∷ []) ⌝ }
+fn invocation_mark(v: Invocation) -> u8
+    ensures { λ r. ⌜ r ≡ invocationMark v ⌝ }
 {
-    [
-        (a.id % 256) as u8,
-        (a.problem % 256 % 8 + a.problem / 256 % 16 * 8 + a.id / 256 % 2 * 128) as u8,
-        (b.id % 256) as u8,
-        (b.problem % 256 % 8 + b.problem / 256 % 16 * 8 + b.id / 256 % 2 * 128) as u8,
-        (c.id % 256) as u8,
-        (c.problem % 256 % 8 + c.problem / 256 % 16 * 8 + c.id / 256 % 2 * 128) as u8,
-        (d.id % 256) as u8,
-        (d.problem % 256 % 8 + d.problem / 256 % 16 * 8 + d.id / 256 % 2 * 128) as u8,
-    ]
+    v.state % 8 + v.class % 8 * 8 + v.shown % 4 * 64
+}
+
+fn put_invocations(t: &mut [u8], at: usize, l: [Invocation; 8])
+    requires { ⌜ at + 16 ≤ length (now t) ⌝ }
+    ensures { λ r. ⌜ now (t .exit) ≡ sets (now (t .entry)) at (pairs invocationID invocationMark l) ⌝ }
+{
+    let mut i: usize = 0;
+    while i < 8 {
+        let v = l[i];
+        put_pair(t, at + i * 2, v.id, invocation_mark(v));
+        i += 1;
+    }
+}
+
+fn reject_mark(r: Reject) -> u8
+    ensures { λ n. ⌜ n ≡ rejectMark r ⌝ }
+{
+    (r.problem % 256 % 8 + r.problem / 256 % 16 * 8 + r.id / 256 % 2 * 128) as u8
 }
 
 fn put_rejects(t: &mut [u8], at: usize, l: [Reject; 8])
     requires { ⌜ at + 16 ≤ length (now t) ⌝ }
-    ensures { λ r. ⌜ now (t .exit) ≡ sets (now (t .entry)) at (rejectsFrom 8 0 l) ⌝ }
+    ensures { λ r. ⌜ now (t .exit) ≡ sets (now (t .entry)) at (pairs rejectID rejectMark l) ⌝ }
 {
-    let first = reject_octets(l[0], l[1], l[2], l[3]);
-    let last = reject_octets(l[4], l[5], l[6], l[7]);
-    put(t, at, &first);
-    put(t, at + 8, &last);
+    let mut i: usize = 0;
+    while i < 8 {
+        let v = l[i];
+        put_pair(t, at + i * 2, low(v.id), reject_mark(v));
+        i += 1;
+    }
 }
 
 // The control record and the length of the waiting octets of place p. What that makes of the table is in facts, Stores.
@@ -325,9 +330,8 @@ pub fn put_control(t: &mut [u8], p: usize, c: Control, n: u8)
     let invocations = c.invocations;
     let rejects = c.rejects;
     let first = head_octets(c, n);
-    let second = invocation_octets(invocations);
     put(t, a, &first);
-    put(t, a + 12, &second);
+    put_invocations(t, a + 12, invocations);
     put_rejects(t, a + 28, rejects);
 }
 

@@ -1,110 +1,101 @@
-use Prim.Native.Nat.{ℕ, _+_}
-use mathlib.Core.Path.{ap, _∙_}
-use mathlib.Core.List.{List}
-use lib.Seq.{sets}
-use Rattle.places.proofs.Writing.{rejects-put}
+use Prim.Native.Nat.{ℕ, _+_, _-_, _≤_}
+use mathlib.Core.Path.{_≡_, refl}
+use native.Mathlib.Omega.{arith}
 use borrow.Author.Needs.{needs}
+use lib.ListN.{length, take}
+use lib.Seq.{sets}
+use Rattle.paper.specs.Dialogues.{noReject}
+use Rattle.places.specs.Made.{pairs, rejectID, rejectMark}
+use Rattle.places.proofs.Writing.{pairs-more, pairs-all}
 use Rattle.places.proofs.put_rejects.Statement.{statement}
 use Rattle.places.proofs.put_rejects.Tie as tie
 use Rattle.places.proofs.put_rejects.Reads as reads
 use Rattle.places.proofs.put_rejects.Lts as lts
-use Rattle.places.proofs.put.Reads as put-reads
-use Rattle.places.proofs.reject_octets.Reads as reject-octets-reads
+use Rattle.places.proofs.low.Reads as low-reads
+use Rattle.places.proofs.put_pair.Reads as put-pair-reads
+use Rattle.places.proofs.reject_mark.Reads as reject-mark-reads
 
--- src/lib.rt:313:31
-array-copy-out-reject-octets : tie.Need-array-copy-out-reject-octets
-array-copy-out-reject-octets c = search needs
+abbrev Inv-loop : tie.InvT-loop
+Inv-loop t₀ at l i₀ t i = (i ≤ 8) × (length t ≡ length t₀) × (t ≡ sets t₀ at (pairs rejectID rejectMark (take i l)))
 
--- src/lib.rt:313:37
-array-copy-out-reject-octets-2 : tie.Need-array-copy-out-reject-octets-2
-array-copy-out-reject-octets-2 c = search needs
+abbrev μ-loop : tie.MeasureT-loop
+μ-loop t₀ at l i₀ t i = 8 - i
 
--- src/lib.rt:313:43
-array-copy-out-reject-octets-3 : tie.Need-array-copy-out-reject-octets-3
-array-copy-out-reject-octets-3 c = search needs
+-- src/lib.rt:309:5
+loop-holds : tie.Need-loop-holds Inv-loop μ-loop
+loop-holds c = (search needs, refl, refl)
 
--- src/lib.rt:313:49
-array-copy-out-reject-octets-4 : tie.Need-array-copy-out-reject-octets-4
-array-copy-out-reject-octets-4 c = search needs
+-- src/lib.rt:310:17
+mul-v : tie.Need-mul-v Inv-loop μ-loop
+mul-v c = search needs
 
--- src/lib.rt:313:17
-reject-octets-requires : tie.Need-reject-octets-requires
-reject-octets-requires c κs = search needs
+-- src/lib.rt:310:17
+array-copy-out-v : tie.Need-array-copy-out-v Inv-loop μ-loop
+array-copy-out-v c = search needs
 
--- src/lib.rt:314:30
-array-copy-out-reject-octets-5 : tie.Need-array-copy-out-reject-octets-5
-array-copy-out-reject-octets-5 c = search needs
+-- src/lib.rt:311:26
+mul-put-pair : tie.Need-mul-put-pair Inv-loop μ-loop
+mul-put-pair c = search needs
 
--- src/lib.rt:314:36
-array-copy-out-reject-octets-6 : tie.Need-array-copy-out-reject-octets-6
-array-copy-out-reject-octets-6 c = search needs
+-- src/lib.rt:311:21
+add-put-pair : tie.Need-add-put-pair Inv-loop μ-loop
+add-put-pair c = search needs
 
--- src/lib.rt:314:42
-array-copy-out-reject-octets-7 : tie.Need-array-copy-out-reject-octets-7
-array-copy-out-reject-octets-7 c = search needs
+-- src/lib.rt:311:33
+low-requires : tie.Need-low-requires Inv-loop μ-loop
+low-requires c κs = search needs
 
--- src/lib.rt:314:48
-array-copy-out-reject-octets-8 : tie.Need-array-copy-out-reject-octets-8
-array-copy-out-reject-octets-8 c = search needs
+-- src/lib.rt:311:44
+reject-mark-requires : tie.Need-reject-mark-requires Inv-loop μ-loop
+reject-mark-requires c κs = search needs
 
--- src/lib.rt:314:16
-reject-octets-requires-2 : tie.Need-reject-octets-requires-2
-reject-octets-requires-2 c κs = search needs
+-- src/lib.rt:311:9
+put-pair-requires : tie.Need-put-pair-requires Inv-loop μ-loop
+put-pair-requires c κs = search needs
 
--- src/lib.rt:315:16
-slice-aggregate-put : tie.Need-slice-aggregate-put
-slice-aggregate-put c = search needs
+-- src/lib.rt:312:9
+add-i : tie.Need-add-i Inv-loop μ-loop
+add-i c = search needs
 
--- src/lib.rt:315:5
-put-requires : tie.Need-put-requires
-put-requires c κs = search needs
+-- src/lib.rt:309:5
+loop-less : tie.Need-loop-less Inv-loop μ-loop
+loop-less c = search needs
 
--- src/lib.rt:316:12
-add-put : tie.Need-add-put
-add-put c = search needs
+-- src/lib.rt:309:5
+loop-again : tie.Need-loop-again Inv-loop μ-loop
+loop-again c = let p = c .before .before in
+    let k = c .before .before .before .before .before .before .before .before in
+    let s = k .before .before in (
+      search needs,
+      search needs,
+      pairs-more rejectID rejectMark (s .args .t .now) (k .loop .t) (p .put-pair .last .0) (s .args .at) (s .args .t3) noReject (k .loop .i) _ _ (k .loop .inv .2) (omega arith) (c .before .before .before .before .low .ensures) (c .before .before .before .reject-mark .ensures) (p .put-pair .ensures),
+    )
 
--- src/lib.rt:316:20
-slice-aggregate-put-2 : tie.Need-slice-aggregate-put-2
-slice-aggregate-put-2 c = search needs
-
--- src/lib.rt:316:5
-put-requires-2 : tie.Need-put-requires-2
-put-requires-2 c κs = search needs
-
--- src/lib.rt:309:1
-same-length : tie.Need-same-length
+-- src/lib.rt:304:1
+same-length : tie.Need-same-length Inv-loop μ-loop
 same-length c = search needs
 
--- src/lib.rt:309:1
-returns : tie.Need-returns
-returns c = let second = c .before .before in
-    let first = second .before .before .before .before .before in
-    let four = first .before .before .before in
-    let eight = four .before .before .before .before .before in
-    let s = eight .before .before .before .before .before .before in
-    let x : List ℕ = eight .reject-octets .result in
-    let y : List ℕ = four .reject-octets2 .result in
-    second .put2 .ensures ∙ ap (λ (u : List ℕ). sets u (s .args .at + 8) y) (first .put .ensures)
-    ∙ rejects-put (s .args .t .now) x y (s .args .at) (s .args .t3) (eight .reject-octets .ensures) (four .reject-octets2 .ensures)
+-- src/lib.rt:304:1
+returns : tie.Need-returns Inv-loop μ-loop
+returns c = let s = c .before .before .before in
+    pairs-all rejectID rejectMark (s .args .t .now) (c .before .loop .t) (s .args .at) (s .args .t3) (c .before .loop .i) (c .before .loop .inv .2) (omega arith)
 
 pub put-rejects-spec : {M : Type 1} → statement M
 put-rejects-spec =
     tie.close
     (tie.spec
-    array-copy-out-reject-octets
-    array-copy-out-reject-octets-2
-    array-copy-out-reject-octets-3
-    array-copy-out-reject-octets-4
-    reject-octets-requires
-    array-copy-out-reject-octets-5
-    array-copy-out-reject-octets-6
-    array-copy-out-reject-octets-7
-    array-copy-out-reject-octets-8
-    reject-octets-requires-2
-    slice-aggregate-put
-    put-requires
-    add-put
-    slice-aggregate-put-2
-    put-requires-2
+    Inv-loop
+    μ-loop
+    loop-holds
+    mul-v
+    array-copy-out-v
+    mul-put-pair
+    add-put-pair
+    low-requires
+    reject-mark-requires
+    put-pair-requires
+    add-i
+    loop-less
+    loop-again
     same-length
     returns)
