@@ -4,8 +4,9 @@ use mathlib.Core.Path.{_≡_, refl, sym, ap, subst, _∙_}
 use mathlib.Core.List.{List, [], _∷_, _++_, append-assoc, append-nil}
 use native.Mathlib.Nat.{pow-suc}
 use native.Mathlib.Omega.{arith}
-use lib.ListN.{length, getD, take, drop}
-use lib.Seq.{drop-cons, length-take-le, getD-take}
+use lib.ListN.{length, getD, take}
+use lib.Seq.{length-take-le, getD-take}
+use Rattle.laws.specs.Lists.{span-part}
 use Rattle.laws.specs.Digits.{digits, octetDigits, wordAt, word-digits, map-digit, digit-div, digit-room, digit-le}
 use Rattle.paper.specs.Layout.{mapBit}
 
@@ -47,23 +48,10 @@ bit-room t p h l o e = digit-room 8 (getD t (p / 8) 0) (p % 8) (omega arith) o (
 pub bit-there : (t : List ℕ) (p : ℕ) → p < 128 → 16 ≤ length t → mapBit t p ≡ 1 → 2 ^ (p % 8) ≤ getD t (p / 8) 0
 bit-there t p h l e = digit-le 8 (getD t (p / 8) 0) (p % 8) (omega arith) (digit-bit t p h l ∙ e)
 
--- n elements from a on, one by one
-abbrev span : ℕ → ℕ → List ℕ → List ℕ
-span zero a b = []
-span (suc n) a b = getD b a 0 ∷ span n (suc a) b
-
-span-eq : (n a : ℕ) (l : List ℕ) → a + n ≤ length l → span n a l ≡ take n (drop a l)
-span-eq zero a l h = refl
-span-eq (suc n) a l h =
-    ap (λ (r : List ℕ). getD l a 0 ∷ r) (span-eq n (suc a) l (omega arith)) ∙ sym (ap (take (suc n)) (drop-cons l a 0 (omega arith)))
-
-sixteen : (t : List ℕ) → 16 ≤ length t → take 16 t ≡ span 16 0 t
-sixteen t h = sym (span-eq 16 0 t h)
-
 pub two-words : (t : List ℕ) → ((i : ℕ) → getD t i 0 < 256) → 16 ≤ length t → digits 64 (wordAt t 0) ++ digits 64 (wordAt t 8) ≡ octetDigits (take 16 t)
 unfolding octetDigits
 two-words t o h =
     ap (λ (l : List ℕ). l ++ digits 64 (wordAt t 8)) (word-digits t 0 o)
     ∙ ap (λ (l : List ℕ). (digits 8 (getD t 0 0) ++ (digits 8 (getD t 1 0) ++ (digits 8 (getD t 2 0) ++ (digits 8 (getD t 3 0) ++ (digits 8 (getD t 4 0) ++ (digits 8 (getD t 5 0) ++ (digits 8 (getD t 6 0) ++ digits 8 (getD t 7 0)))))))) ++ l) (word-digits t 8 o)
     ∙ (simp (append-assoc, append-nil) refl)
-    ∙ ap octetDigits (sym (sixteen t h))
+    ∙ ap octetDigits (span-part 16 0 t h)

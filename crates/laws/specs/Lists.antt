@@ -7,8 +7,8 @@ use native.Mathlib.Omega.{arith}
 use native.Mathlib.Nat.{not-suc-le-zero, le-of-suc-le-suc, zero-add, suc-add, add-suc, add-zero}
 use lib.Dec.{eqb}
 use borrow.Author.Tests.{eqb-true, eqb-false}
-use lib.ListN.{length, getD, set, length-set}
-use lib.Seq.{ext-getD, getD-set-same, getD-set-other}
+use lib.ListN.{length, getD, set, take, drop, length-set}
+use lib.Seq.{ext-getD, getD-set-same, getD-set-other, drop-cons}
 use Rattle.laws.specs.If.{ifEq, ifB}
 use Rattle.laws.specs.Sums.{sum, sum-ext, sumBy}
 
@@ -92,3 +92,20 @@ sumBy-tab g (suc n) i f =
 -- a count over the list of records is the code's count over the places
 pub sum-tab : {A : Type 0} (g : A → ℕ) (n : ℕ) (f : ℕ → A) → sumBy g (tab n 0 f) ≡ sum (λ j. g (f j)) n
 sum-tab g n f = sumBy-tab g n 0 f ∙ sum-ext (λ j. g (f (0 + j))) (λ j. g (f j)) n (λ k h. ap (λ (x : ℕ). g (f x)) (zero-add k))
+
+-- n octets from a on, one by one
+abbrev pub span : ℕ → ℕ → List ℕ → List ℕ
+span zero a l = []
+span (suc n) a l = getD l a 0 ∷ span n (suc a) l
+
+pub span-part : (n a : ℕ) (l : List ℕ) → a + n ≤ length l → span n a l ≡ take n (drop a l)
+span-part zero a l h = refl
+span-part (suc n) a l h =
+    ap (λ (r : List ℕ). getD l a 0 ∷ r) (span-part n (suc a) l (omega arith)) ∙ sym (ap (take (suc n)) (drop-cons l a 0 (omega arith)))
+
+-- and what comes after them
+pub span-drop : (n a : ℕ) (l : List ℕ) → a + n ≤ length l → span n a l ++ drop (a + n) l ≡ drop a l
+span-drop zero a l h = ap (λ (k : ℕ). drop k l) (add-zero a)
+span-drop (suc n) a l h =
+    ap (λ (k : ℕ). getD l a 0 ∷ (span n (suc a) l ++ drop k l)) (add-suc a n ∙ sym (suc-add a n))
+    ∙ ap (λ (r : List ℕ). getD l a 0 ∷ r) (span-drop n (suc a) l (omega arith)) ∙ sym (drop-cons l a 0 (omega arith))

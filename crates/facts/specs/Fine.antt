@@ -1,0 +1,90 @@
+-- WHAT A TABLE THAT KEEPS THE RULES IS (01, "Answer numbers", table rules), said of the records. Assumes nothing.
+use mathlib.Core.Path.{_≡_}
+use mathlib.Core.Bool.{Bool, true, false}
+use mathlib.Core.List.{List}
+use Prim.Native.Nat.{ℕ, _<_, _≤_}
+use lib.ListN.{length, getD, drop}
+use Rattle.laws.specs.Lists.{zeros}
+use Rattle.paper.specs.declared.Invocation.{Invocation}
+use Rattle.paper.specs.declared.Reject.{Reject}
+use Rattle.paper.specs.declared.Control.{Control}
+use Rattle.paper.specs.Problems.{senderOfProblem, byLayer, kindOf, codeOf}
+use Rattle.paper.specs.Invocations.{noInvocation}
+use Rattle.paper.specs.Dialogues.{Place, emptyPlace, noReject}
+use Rattle.paper.specs.Calls.{Table, placeAt}
+use Rattle.paper.specs.Rules.{hasPeer, waitingKept, tableShares}
+
+-- what a lent slice is
+abbrev pub Octets : List ℕ → Type 0
+Octets l = (i : ℕ) → getD l i 0 < 256
+
+-- "octets and invocations not in use are zero; states .. classes .. are in range"
+pub record FineInvocation (v : Invocation) : Type 0 where
+  pub state : v .state ≤ 4
+  pub least : (v .state ≡ 0 → ⊥) → 1 ≤ v .class
+  pub class : v .class ≤ 4
+  pub shown : v .shown ≤ 1
+  pub unused : v .state ≡ 0 → v ≡ noInvocation
+
+-- "invoke IDs within a dialogue differ": of those in use
+pub record FineInvocations (l : List Invocation) : Type 0 where
+  pub each : (i : ℕ) → i < length l → FineInvocation (getD l i noInvocation)
+  pub differ : (i j : ℕ) → i < j → j < length l → (getD l i noInvocation .state ≡ 0 → ⊥) → (getD l j noInvocation .state ≡ 0 → ⊥)
+      → getD l j noInvocation .id ≡ getD l i noInvocation .id → ⊥
+
+-- "waiting rejects are ones the component sub-layer sends": only a general one may lack its ID
+pub record FineReject (r : Reject) : Type 0 where
+  pub sender : senderOfProblem (r .problem) ≡ byLayer
+  pub id : r .id ≤ 256
+  pub general : r .id ≡ 256 → kindOf (r .problem) ≡ 0
+
+-- n that wait, then none
+pub record FineRejects (n : ℕ) (l : List Reject) : Type 0 where
+  pub each : (i : ℕ) → i < n → i < length l → FineReject (getD l i noReject)
+  pub rest : (i : ℕ) → n ≤ i → i < length l → getD l i noReject ≡ noReject
+
+-- "a peer ID has 1 to 4 octets in Received and Active and none in Open and Sent"
+pub record FinePeer (c : Control) : Type 0 where
+  pub some : hasPeer (c .state) ≡ true → 1 ≤ c .peerlen
+  pub none : hasPeer (c .state) ≡ false → c .peerlen ≡ 0
+  pub most : c .peerlen ≤ 4
+  pub rest : zeros (drop (c .peerlen) (c .peer)) ≡ true
+
+-- "states, services, classes and lengths are in range"
+pub record FineControl (c : Control) : Type 0 where
+  pub turn : c .turn < 16777216
+  pub state : c .state < 5
+  pub service : c .service < 16
+  pub four : length (c .peer) ≡ 4
+  pub peer : FinePeer c
+  pub count : c .count ≤ 8
+  pub eight : length (c .invocations) ≡ 8
+  pub invocations : FineInvocations (c .invocations)
+  pub eights : length (c .rejects) ≡ 8
+  pub rejects : FineRejects (c .count) (c .rejects)
+
+-- what a store of a control record asks of it: that its lists have their lengths and its octets' parts go into their bits
+pub record Storable (c : Control) : Type 0 where
+  pub four : length (c .peer) ≡ 4
+  pub eight : length (c .invocations) ≡ 8
+  pub invocations : (i : ℕ) → i < 8 → (getD (c .invocations) i noInvocation .state < 8)
+      × (getD (c .invocations) i noInvocation .class < 8) × (getD (c .invocations) i noInvocation .shown < 4)
+  pub eights : length (c .rejects) ≡ 8
+  pub rejects : (i : ℕ) → i < 8 → (getD (c .rejects) i noReject .id < 512)
+      × (kindOf (getD (c .rejects) i noReject .problem) < 16) × (codeOf (getD (c .rejects) i noReject .problem) < 8)
+
+-- "a free place is all zero but its turn"; "waiting octets are whole components, well formed and with the pieces that Coding gives"
+pub record FinePlace (x : Place) : Type 0 where
+  pub control : FineControl (x .control)
+  pub room : length (x .waiting) ≤ 240
+  pub whole : waitingKept (x .waiting) ≡ true
+  pub free : x .control .state ≡ 0 → x ≡ emptyPlace (x .control .turn)
+
+-- "the map agrees with the places" is in the octet form: the map is made of the places there.
+-- "shares as for 13; nobody above the limit; free places at least the sum of unused guarantees"
+pub record Fine (T : Table) : Type 0 where
+  pub guarantees : length (T .guarantees) ≡ 16
+  pub limits : length (T .limits) ≡ 16
+  pub places : length (T .places) ≡ 128
+  pub each : (p : ℕ) → p < 128 → FinePlace (placeAt T p)
+  pub shares : tableShares T ≡ true

@@ -1,0 +1,10 @@
+pub mod Zeros
+pub mod Fine
+pub mod Kept
+pub mod Octets
+pub mod Slots
+pub mod Whole
+pub mod Ready
+pub mod Counts
+pub mod Stores
+pub mod Owners

@@ -1,0 +1,21 @@
+use native.Mathlib.Omega.{arith}
+use mathlib.Core.Path.{_∙_}
+use Rattle.facts.specs.Counts.{ready-lowest}
+use borrow.Author.Needs.{needs}
+use Rattle.places.proofs.lowest_place.Statement.{statement}
+use Rattle.places.proofs.lowest_place.Tie as tie
+use Rattle.places.proofs.lowest_place.Reads as reads
+use Rattle.places.proofs.lowest_place.Lts as lts
+use Rattle.freemap.proofs.lowest_free.Reads as lowest-free-reads
+
+-- src/lib.rt:211:5
+lowest-free-requires : tie.Need-lowest-free-requires
+lowest-free-requires c κs = search needs
+
+-- src/lib.rt:207:1
+returns : tie.Need-returns
+returns c =     let s = c .before .before in
+    (c .lowest-free .ensures .0 ∙ ready-lowest (s .args .t .now) (s .pre), c .lowest-free .ensures .1)
+
+pub lowest-place-spec : {M : Type 1} → statement M
+lowest-place-spec = tie.close (tie.spec lowest-free-requires returns)

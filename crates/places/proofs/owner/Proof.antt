@@ -1,0 +1,68 @@
+use native.Mathlib.Omega.{arith}
+use mathlib.Core.Path.{refl}
+use Rattle.laws.specs.If.{ge}
+use Rattle.paper.specs.Calls.{owns}
+use Rattle.places.proofs.Laws.{owner-is}
+use borrow.Author.Needs.{needs}
+use Rattle.places.proofs.owner.Statement.{statement}
+use Rattle.places.proofs.owner.Tie as tie
+use Rattle.places.proofs.owner.Reads as reads
+use Rattle.places.proofs.owner.Lts as lts
+use Rattle.places.proofs.is_dialogue.Reads as is-dialogue-reads
+
+-- src/lib.rt:197:13
+cast-p : tie.Need-cast-p
+cast-p c = search needs
+
+-- src/lib.rt:199:9
+returns : tie.Need-returns
+unfolding owns
+returns c = ge _ _ _ _ (omega arith) refl
+
+-- src/lib.rt:201:18
+mul-a : tie.Need-mul-a
+mul-a c = search needs
+
+-- src/lib.rt:201:13
+add-a : tie.Need-add-a
+add-a c = search needs
+
+-- src/lib.rt:202:13
+add-e : tie.Need-add-e
+add-e c = search needs
+
+-- src/lib.rt:203:24
+sub-is-dialogue : tie.Need-sub-is-dialogue
+sub-is-dialogue c = search needs
+
+-- src/lib.rt:203:24
+part-is-dialogue-start : tie.Need-part-is-dialogue-start
+part-is-dialogue-start c = search needs
+
+-- src/lib.rt:203:24
+part-is-dialogue-end : tie.Need-part-is-dialogue-end
+part-is-dialogue-end c = search needs
+
+-- src/lib.rt:203:5
+is-dialogue-requires : tie.Need-is-dialogue-requires
+is-dialogue-requires c κs = search needs
+
+-- src/lib.rt:203:5
+returns-2 : tie.Need-returns-2
+returns-2 c =     let a = c .before .before .before .before .args in
+    owner-is (a .t .now) (a .service) (a .dialogue) (c .is-dialogue .result) (omega arith) (c .is-dialogue .ensures)
+
+pub owner-spec : {M : Type 1} → statement M
+owner-spec =
+    tie.close
+    (tie.spec
+    cast-p
+    returns
+    mul-a
+    add-a
+    add-e
+    sub-is-dialogue
+    part-is-dialogue-start
+    part-is-dialogue-end
+    is-dialogue-requires
+    returns-2)

@@ -1,0 +1,55 @@
+use native.Mathlib.Omega.{arith}
+use Rattle.places.proofs.Laws.{waiting-is}
+use borrow.Author.Needs.{needs}
+use Rattle.places.proofs.waiting.Statement.{statement}
+use Rattle.places.proofs.waiting.Tie as tie
+use Rattle.places.proofs.waiting.Reads as reads
+use Rattle.places.proofs.waiting.Lts as lts
+use Rattle.places.proofs.waiting_length.Reads as waiting-length-reads
+
+-- src/lib.rt:172:9
+waiting-length-requires : tie.Need-waiting-length-requires
+waiting-length-requires c κs = search needs
+
+-- src/lib.rt:173:18
+mul-a : tie.Need-mul-a
+mul-a c = search needs
+
+-- src/lib.rt:173:13
+add-a : tie.Need-add-a
+add-a c = search needs
+
+-- src/lib.rt:174:13
+add-e : tie.Need-add-e
+add-e c = search needs
+
+-- src/lib.rt:175:5
+sub-result : tie.Need-sub-result
+sub-result c = search needs
+
+-- src/lib.rt:175:5
+part-result-start : tie.Need-part-result-start
+part-result-start c = search needs
+
+-- src/lib.rt:175:5
+part-result-end : tie.Need-part-result-end
+part-result-end c = search needs
+
+-- src/lib.rt:168:1
+returns : tie.Need-returns
+returns c =     let s = c .before .before .before in
+    let w = c .before .waiting-length in
+    waiting-is (s .args .t .now) (s .args .p) (s .pre .1) (s .pre .0) (w .result) (w .ensures .0) (w .ensures .1)
+
+pub waiting-spec : {M : Type 1} → statement M
+waiting-spec =
+    tie.close
+    (tie.spec
+    waiting-length-requires
+    mul-a
+    add-a
+    add-e
+    sub-result
+    part-result-start
+    part-result-end
+    returns)
