@@ -1,0 +1,236 @@
+// Elements read (01, "Coding"): tag, length, element and contents, frame. Positions into one slice; lim is where the octets around end.
+ghost use mathlib.Core.Path.{_≡_};
+ghost use mathlib.Core.Bool.{Bool};
+ghost use Prim.Native.Nat.{ℕ, _+_, _*_, _-_, _<_, _≤_};
+ghost use lib.ListN.{length};
+ghost use Rattle.paper.specs.Elements.{tagMore, tagEnd, lengthAt, headAt, ended, contents, element, frameAt};
+ghost use Rattle.elements.specs.Bounds.{Past, LengthIn, HeadIn, ReadingIn, FrameIn};
+use paper::Frame;
+use paper::Head;
+use paper::Length;
+use paper::Reading;
+
+fn wide(x: u8) -> usize
+    ensures { λ r. ⌜ (r ≡ x) × (r < 256) ⌝ }
+{
+    x as usize
+}
+
+// "Long tags have 1 to 4 further octets": past the last of them, else 0.
+fn tag_more(s: &[u8], lim: usize, at: usize) -> usize
+    requires { ⌜ lim ≤ length (now s) ⌝ }
+    ensures is { λ r. ⌜ r ≡ tagMore (now (s .entry)) lim 4 at ⌝ }
+    ensures within { λ r. ⌜ Past at lim r ⌝ }
+{
+    let mut p = at;
+    let mut left: usize = 4;
+    while left > 0 {
+        if p >= lim {
+            return 0;
+        }
+        if s[p] < 128 {
+            return p + 1;
+        }
+        p += 1;
+        left -= 1;
+    }
+    0
+}
+
+// Where the tag at a position ends, 0 where it is malformed.
+fn tag_end(s: &[u8], lim: usize, at: usize) -> usize
+    requires { ⌜ lim ≤ length (now s) ⌝ }
+    ensures is { λ r. ⌜ r ≡ tagEnd (now (s .entry)) lim at ⌝ }
+    ensures within { λ r. ⌜ Past at lim r ⌝ }
+{
+    if at >= lim {
+        return 0;
+    }
+    let t = s[at];
+    if t == 0 {
+        return 0;
+    }
+    if t % 32 != 31 {
+        return at + 1;
+    }
+    let p = at + 1;
+    if p >= lim {
+        return 0;
+    }
+    let b = s[p];
+    if b < 31 {
+        return 0;
+    }
+    if b == 128 {
+        return 0;
+    }
+    tag_more(s, lim, p)
+}
+
+// "Length below 128 uses one octet; 81 only for 128 to 255; 82 only for 256 up; 80 (indefinite ..)"
+pub fn length_at(s: &[u8], lim: usize, at: usize) -> Length
+    requires { ⌜ lim ≤ length (now s) ⌝ }
+    ensures is { λ r. ⌜ r ≡ lengthAt (now (s .entry)) lim at ⌝ }
+    ensures within { λ r. ⌜ LengthIn at lim r ⌝ }
+{
+    if at >= lim {
+        return Length::Wrong;
+    }
+    let l = wide(s[at]);
+    if l < 128 {
+        return Length::Given(at + 1, l);
+    }
+    if l == 128 {
+        return Length::Until(at + 1);
+    }
+    if l == 129 {
+        if at + 1 >= lim {
+            return Length::Wrong;
+        }
+        let n = wide(s[at + 1]);
+        if n < 128 {
+            return Length::Wrong;
+        }
+        return Length::Given(at + 2, n);
+    }
+    if l != 130 {
+        return Length::Wrong;
+    }
+    if lim - at < 3 {
+        return Length::Wrong;
+    }
+    let n = wide(s[at + 1]) * 256 + wide(s[at + 2]);
+    if n < 256 {
+        return Length::Wrong;
+    }
+    Length::Given(at + 3, n)
+}
+
+// The tag and length of the element at a position.
+pub fn head_at(s: &[u8], lim: usize, at: usize) -> Head
+    requires { ⌜ lim ≤ length (now s) ⌝ }
+    ensures is { λ r. ⌜ r ≡ headAt (now (s .entry)) lim at ⌝ }
+    ensures within { λ r. ⌜ HeadIn at lim r ⌝ }
+{
+    let p = tag_end(s, lim, at);
+    if p == 0 {
+        return Head::Bad;
+    }
+    let constructor = s[at] / 32 % 2;
+    match length_at(s, lim, p) {
+        Length::Wrong => Head::Bad,
+        Length::Until(b) => {
+            if constructor == 1 {
+                return Head::Opens(b);
+            }
+            Head::Bad
+        }
+        Length::Given(b, n) => {
+            if lim - b < n {
+                return Head::Bad;
+            }
+            if constructor == 1 {
+                return Head::Holds(b, b + n);
+            }
+            Head::Whole(b + n)
+        }
+    }
+}
+
+// Whether contents end at a position: at their limit, or, where the length is indefinite, at 00 00.
+fn is_end(s: &[u8], indefinite: bool, lim: usize, at: usize) -> bool
+    requires { ⌜ (at ≤ lim) × (lim ≤ length (now s)) ⌝ }
+    ensures { λ r. ⌜ r ≡ ended (now (s .entry)) indefinite lim at ⌝ }
+{
+    if indefinite {
+        if lim - at < 2 {
+            return false;
+        }
+        if s[at] != 0 {
+            return false;
+        }
+        return s[at + 1] == 0;
+    }
+    at == lim
+}
+
+// "An element is well formed if its contents are": the one at a position, with `left` depths left.
+pub fn element(s: &[u8], left: usize, lim: usize, at: usize) -> Reading
+    requires { ⌜ lim ≤ length (now s) ⌝ }
+    ensures is { λ r. ⌜ r ≡ element (now (s .entry)) left lim at ⌝ }
+    ensures within { λ r. ⌜ ReadingIn at lim r ⌝ }
+{
+    if left == 0 {
+        return Reading::Fault(at);
+    }
+    match head_at(s, lim, at) {
+        Head::Bad => Reading::Fault(at),
+        Head::Whole(e) => Reading::Ends(e),
+        Head::Holds(b, e) => contents(s, left - 1, false, e, at, b),
+        Head::Opens(b) => contents(s, left - 1, true, lim, at, b),
+    }
+}
+
+// "contents are if each of their elements is": a loop over the elements, so that only depth takes stack.
+fn contents(s: &[u8], left: usize, indefinite: bool, lim: usize, outer: usize, at: usize) -> Reading
+    requires { ⌜ (at ≤ lim) × (lim ≤ length (now s)) ⌝ }
+    ensures { λ r. ⌜ ((n : ℕ) → lim - at < n → r ≡ contents (element (now (s .entry)) left) (now (s .entry)) indefinite lim outer n at) ⌝ }
+{
+    let mut p = at;
+    loop {
+        if is_end(s, indefinite, lim, p) {
+            if indefinite {
+                return Reading::Ends(p + 2);
+            }
+            return Reading::Ends(p);
+        }
+        if p == lim {
+            return Reading::Fault(outer);
+        }
+        match element(s, left, lim, p) {
+            Reading::Fault(f) => {
+                return Reading::Fault(f);
+            }
+            Reading::Ends(e) => {
+                p = e;
+            }
+        }
+    }
+}
+
+// The frame: "an indefinite 6C or component has its end found when well-formed elements lead up to 00 00".
+pub fn frame_at(s: &[u8], left: usize, lim: usize, at: usize) -> Frame
+    requires { ⌜ lim ≤ length (now s) ⌝ }
+    ensures is { λ r. ⌜ r ≡ frameAt (now (s .entry)) left lim at ⌝ }
+    ensures within { λ r. ⌜ FrameIn at lim r ⌝ }
+{
+    match head_at(s, lim, at) {
+        Head::Bad => Frame {
+            from: 0,
+            to: 0,
+            stop: 0,
+        },
+        Head::Whole(e) => Frame {
+            from: e,
+            to: e,
+            stop: e,
+        },
+        Head::Holds(b, e) => Frame {
+            from: b,
+            to: e,
+            stop: e,
+        },
+        Head::Opens(b) => match element(s, left, lim, at) {
+            Reading::Ends(x) => Frame {
+                from: b,
+                to: x - 2,
+                stop: x,
+            },
+            Reading::Fault(_f) => Frame {
+                from: 0,
+                to: 0,
+                stop: 0,
+            },
+        },
+    }
+}
