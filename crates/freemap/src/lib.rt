@@ -24,7 +24,7 @@ fn word_of(a: u8, b: u8, c: u8, d: u8, e: u8, f: u8, g: u8, h: u8) -> u64
         + (h as u64) * 72057594037927936
 }
 
-fn word(t: &[u8], a: usize) -> u64
+pub fn word(t: &[u8], a: usize) -> u64
     requires { ⌜ a + 8 ≤ length (now t) ⌝ }
     ensures { λ r. ⌜ r ≡ wordAt (now (t .entry)) a ⌝ }
 {
