@@ -43,8 +43,8 @@ module _ {s : List ℕ} {at : ℕ} where
   pub has-rest : (xs ys : List ℕ) → Has s at (xs ++ ys) → Has s (at + length xs) ys
   has-rest xs ys a = record {
     octet = λ i h.
-    ap (λ (k : ℕ). getD s k 0) (add-assoc at (length xs) i)
-    ∙ a .octet (length xs + i) (omega (arith, length-append xs ys)) ∙ getD-append-add xs ys i 0;
+        ap (λ (k : ℕ). getD s k 0) (add-assoc at (length xs) i)
+        ∙ a .octet (length xs + i) (omega (arith, length-append xs ys)) ∙ getD-append-add xs ys i 0;
   }
 
   -- the octet at the run's start, and the octets after it
