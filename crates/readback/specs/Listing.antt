@@ -1,26 +1,25 @@
 -- A component of any kind, and components one after another, read where they were written. Assumes nothing.
 use native.Mathlib.Omega.{arith}
-use Prim.Native.Nat.{ℕ, zero, suc, _+_, _*_, _-_, _/_, _%_, _<_, _≤_}
+use Prim.Native.Nat.{ℕ, zero, suc, _+_, _-_, _<_, _≤_}
 use mathlib.Core.Path.{_≡_, refl, sym, _∙_, ap, subst}
-use mathlib.Core.Bool.{Bool, true, false}
-use mathlib.Core.Logic.{_⊎_, inl, inr, ⊎-elim}
+use mathlib.Core.Bool.{Bool, true}
+use mathlib.Core.Logic.{_⊎_, ⊎-elim}
 use mathlib.Core.List.{List, [], _∷_, _++_}
 use lib.ListN.{length, length-append}
 use lib.Dec.{ltb}
 use borrow.Author.Tests.{eqb-true, lt-ltb, le-ltb}
-use Rattle.laws.specs.If.{ifEq, ifB, eq, by-eq, was-yes, true-false}
-use Rattle.paper.specs.declared.Reading.{Reading}
-use Rattle.paper.specs.declared.Reading.the-variants.{Ends, Fault}
+use Rattle.laws.specs.If.{ifEq, eq, by-eq, was-yes, true-false}
+use Rattle.paper.specs.declared.Reading.the-variants.{Ends}
 use Rattle.paper.specs.declared.Component.{Component}
 use Rattle.paper.specs.Sizes.{depths}
-use Rattle.paper.specs.Elements.{constructor, element}
-use Rattle.paper.specs.Problems.{senderOfProblem, byNobody, noProblem}
-use Rattle.paper.specs.Components.{invokeTag, lastTag, errorTag, rejectTag, notLastTag, knownTag, noID, sound, componentAt, Item, item, nextStart, goOn, items, components}
-use Rattle.paper.specs.Dialogues.{endsAt, isElement, isCode, isParameter, isResult}
-use Rattle.paper.specs.Writing.{lengthOctets, tlv, idThen, invokeOctets, resultOctets, errorOctets, problemOctets, rejectOctets}
+use Rattle.paper.specs.Elements.{element}
+use Rattle.paper.specs.Problems.{noProblem}
+use Rattle.paper.specs.Components.{invokeTag, errorTag, rejectTag, knownTag, noID, sound, componentAt, Item, item, nextStart, goOn, items, components}
+use Rattle.paper.specs.Dialogues.{isElement, isCode, isParameter, isResult}
+use Rattle.paper.specs.Writing.{tlv, idThen, invokeOctets, resultOctets, errorOctets, problemOctets, rejectOctets}
 use Rattle.elements.specs.Bounds.{element-in}
-use Rattle.writing.specs.Lengths.{elementSize, element-length, invoke-plain, invoke-linked, result-none, result-both, reject-none, reject-some}
-use Rattle.readback.specs.Standing.{Has, has-as, has-first, has-rest, ShortTag}
+use Rattle.writing.specs.Lengths.{element-length, invoke-plain, invoke-linked, result-none, result-both, reject-none, reject-some}
+use Rattle.readback.specs.Standing.{Has, has-first, has-rest}
 use Rattle.readback.specs.Written.{Written, Invoke, Result, Error, Reject, octetsOf, ResultTag, Allowed, placed, readAs, joined, AllAllowed, itemsFrom}
 use Rattle.readback.specs.Given.{Code, code-told, ended-at}
 use Rattle.readback.specs.Pieces.{Tagged, Reads, glue, placed-none}

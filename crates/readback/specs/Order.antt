@@ -1,23 +1,21 @@
 -- Each message as it was written, read: its IDs in order, then what follows them. Assumes nothing.
 use native.Mathlib.Omega.{arith}
-use Prim.Native.Nat.{ℕ, zero, suc, _+_, _-_, _%_, _<_, _≤_}
-use mathlib.Core.Path.{_≡_, refl, sym, _∙_, ap, subst}
-use mathlib.Core.Bool.{Bool, true, false}
+use Prim.Native.Nat.{ℕ, _+_, _-_, _<_, _≤_}
+use mathlib.Core.Path.{_≡_, refl, sym, _∙_, ap}
+use mathlib.Core.Bool.{true, false}
 use mathlib.Core.List.{List, [], _∷_, _++_}
 use lib.ListN.{length, getD, length-append}
 use Rattle.laws.specs.If.{ifEq, eq, ne}
 use Rattle.paper.specs.declared.Run.{Run}
 use Rattle.paper.specs.declared.Message.{Message}
-use Rattle.paper.specs.Elements.{constructor}
-use Rattle.paper.specs.Problems.{noProblem}
-use Rattle.paper.specs.Messages.{uniTag, beginTag, endTag, continueTag, abortTag, noRun, idAt, originOf, past, destinationOf, Derived, derived, faultOf, soundOf, portionPart, inOrder, knownType, messageOf}
+use Rattle.paper.specs.Messages.{uniTag, beginTag, endTag, continueTag, abortTag, noRun, idAt, originOf, past, destinationOf, Derived, portionPart, inOrder, knownType, messageOf}
 use Rattle.paper.specs.Dialogues.{isPortion}
 use Rattle.paper.specs.Calls.{octetsAt}
-use Rattle.paper.specs.Writing.{lengthOctets, tlv, componentsOctets, beginOctets, continueOctets, endOctets, uniOctets, userAbortOctets, causeAbortOctets}
+use Rattle.paper.specs.Writing.{tlv, componentsOctets, beginOctets, continueOctets, endOctets, uniOctets, userAbortOctets, causeAbortOctets}
 use Rattle.writing.specs.Heads.{componentsHead, components-joined}
-use Rattle.writing.specs.Lengths.{elementSize, element-length, id-length}
-use Rattle.readback.specs.Standing.{Has, has-first, has-rest, has-at, ShortTag, begins, ends, octet-back, contents-back}
-use Rattle.readback.specs.Written.{starts, run, fromOf, toOf, readBegin, readContinue, readEnd, readUni, readUserAbort, readCauseAbort, Back}
+use Rattle.writing.specs.Lengths.{element-length, id-length}
+use Rattle.readback.specs.Standing.{Has, has-first, has-rest, has-at, ShortTag, ends, octet-back, contents-back}
+use Rattle.readback.specs.Written.{starts, run, readBegin, readContinue, readEnd, readUni, readUserAbort, readCauseAbort, Back}
 use Rattle.readback.specs.Reading.{has-octets, id-back, id-has, derived-as, outer-stands, outer-back, end-octets, components-part, components-has, user-part, cause-part}
 
 -- an ID that was read, and where the octets after it begin

@@ -1,14 +1,14 @@
 -- A component's parameter is its last octets. Assumes nothing.
 use native.Mathlib.Omega.{arith}
-use Prim.Native.Nat.{ℕ, _+_, _-_, _<_, _≤_}
+use Prim.Native.Nat.{ℕ, _+_, _-_}
 use mathlib.Core.Path.{_≡_, refl, sym, _∙_, ap}
 use mathlib.Core.List.{List, [], _∷_, _++_, append-assoc, append-nil}
 use lib.ListN.{length, length-append}
-use Rattle.laws.specs.If.{ifEq, by-eq}
+use Rattle.laws.specs.If.{by-eq}
 use Rattle.paper.specs.Components.{invokeTag, errorTag, noID}
-use Rattle.paper.specs.Writing.{lengthOctets, tlv, idThen, invokeOctets, resultOctets, errorOctets, rejectOctets}
+use Rattle.paper.specs.Writing.{tlv, idThen, resultOctets, errorOctets, rejectOctets}
 use Rattle.writing.specs.Heads.{elementHead, element-joined}
-use Rattle.writing.specs.Lengths.{invoke-plain, invoke-linked, result-none, result-both}
+use Rattle.writing.specs.Lengths.{invoke-plain, invoke-linked, result-both}
 use Rattle.readback.specs.Standing.{Has, has-as, has-rest, has-at}
 use Rattle.readback.specs.Written.{Written, Invoke, Result, Error, Reject, octetsOf, Allowed, parameterOf}
 use Rattle.readback.specs.Listing.{result-empty}

@@ -1,33 +1,26 @@
 -- Messages as they were written, read: their outer element, IDs in order, then a portion or components. Assumes nothing.
 use native.Mathlib.Omega.{arith}
 use native.Mathlib.Nat.{add-zero}
-use Prim.Native.Nat.{ℕ, zero, suc, _+_, _*_, _-_, _/_, _%_, _<_, _≤_}
-use mathlib.Core.Path.{_≡_, refl, sym, _∙_, ap, subst}
-use mathlib.Core.Bool.{Bool, true, false}
-use mathlib.Core.List.{List, [], _∷_, _++_}
+use Prim.Native.Nat.{ℕ, suc, _+_, _-_, _%_, _<_, _≤_}
+use mathlib.Core.Path.{_≡_, refl, sym, _∙_, ap}
+use mathlib.Core.Bool.{true, false}
+use mathlib.Core.List.{List, [], _∷_}
 use lib.ListN.{length, getD, take, drop, length-append, length-take, length-drop}
 use lib.Seq.{ext-getD, getD-take, getD-drop}
-use lib.Dec.{eqb}
 use borrow.Author.Tests.{eq-eqb}
-use Rattle.laws.specs.If.{ifLt, ifEq, ifB, lt, ge, eq, ne, yes, by-eq, was-eq, true-false}
-use Rattle.paper.specs.declared.Length.{Length}
-use Rattle.paper.specs.declared.Length.the-variants.{Wrong, Given, Until}
-use Rattle.paper.specs.declared.Reading.{Reading}
-use Rattle.paper.specs.declared.Reading.the-variants.{Ends, Fault}
-use Rattle.paper.specs.declared.Frame.{Frame}
+use Rattle.laws.specs.If.{ifEq, lt, ge, eq, ne, yes, by-eq, was-eq, true-false}
 use Rattle.paper.specs.declared.Run.{Run}
 use Rattle.paper.specs.declared.Message.{Message}
 use Rattle.paper.specs.Sizes.{depths}
-use Rattle.paper.specs.Elements.{constructor, lengthAt, element, frameAt}
 use Rattle.paper.specs.Problems.{noProblem}
-use Rattle.paper.specs.Messages.{uniTag, beginTag, endTag, continueTag, abortTag, noRun, idAt, originOf, past, destinationOf, Derived, derived, faultOf, soundOf, closes, closing, octetAt, componentsBy, componentsPart, abortPart, afterPortion, portionPart, inOrder, knownType, typed, byLength, messageOf}
+use Rattle.paper.specs.Messages.{uniTag, abortTag, noRun, idAt, originOf, destinationOf, Derived, derived, faultOf, soundOf, closes, closing, octetAt, componentsBy, componentsPart, abortPart, afterPortion, portionPart, inOrder, knownType, typed, byLength, messageOf}
 use Rattle.paper.specs.Dialogues.{isElement, isPortion}
 use Rattle.paper.specs.Calls.{octetsAt}
-use Rattle.paper.specs.Writing.{lengthOctets, tlv, componentsOctets}
+use Rattle.paper.specs.Writing.{tlv, componentsOctets}
 use Rattle.writing.specs.Heads.{componentsHead, components-joined}
-use Rattle.writing.specs.Lengths.{elementSize, element-length, id-of, id-length}
-use Rattle.readback.specs.Standing.{Has, Stands, has-all, has-as, has-head, has-tail, has-first, has-rest, has-at, ShortTag, begins, ends, octet-back, given-back, contents-back, frame-back}
-use Rattle.readback.specs.Written.{starts, run, fromOf, toOf, withComponents}
+use Rattle.writing.specs.Lengths.{element-length, id-of}
+use Rattle.readback.specs.Standing.{Has, Stands, has-all, has-as, has-head, has-rest, has-at, ShortTag, begins, ends, octet-back, given-back, frame-back}
+use Rattle.readback.specs.Written.{run, fromOf, toOf, withComponents}
 use Rattle.readback.specs.Given.{element-copied}
 
 -- the octets of a run are those that stand there

@@ -1,7 +1,7 @@
 -- WHAT IS WRITTEN, AND AS WHAT IT IS TO BE READ (01, "Coding"). Assumes nothing.
-use Prim.Native.Nat.{ℕ, zero, suc, _+_, _-_, _<_, _≤_}
+use Prim.Native.Nat.{ℕ, _+_, _-_, _<_, _≤_}
 use mathlib.Core.Path.{_≡_}
-use mathlib.Core.Bool.{Bool, true}
+use mathlib.Core.Bool.{true}
 use mathlib.Core.Logic.{_⊎_}
 use mathlib.Core.List.{List, [], _∷_, _++_}
 use lib.ListN.{length}
@@ -14,7 +14,7 @@ use Rattle.paper.specs.Components.{invokeTag, lastTag, errorTag, rejectTag, not
 use Rattle.paper.specs.Messages.{uniTag, beginTag, endTag, continueTag, abortTag, noRun, Derived, soundOf, messageOf}
 use Rattle.paper.specs.Dialogues.{isCode, isParameter, isResult}
 use Rattle.paper.specs.Calls.{octetsAt}
-use Rattle.paper.specs.Writing.{lengthOctets, tlv, invokeOctets, resultOctets, errorOctets, rejectOctets, componentsOctets, beginOctets, continueOctets, endOctets, uniOctets, userAbortOctets, causeAbortOctets}
+use Rattle.paper.specs.Writing.{lengthOctets, tlv, invokeOctets, resultOctets, errorOctets, rejectOctets, componentsOctets, beginOctets, continueOctets, endOctets, uniOctets, userAbortOctets}
 use Rattle.readback.specs.Standing.{Has}
 
 -- A COMPONENT, by its parts: invoke ID, linked ID (256 none), operation, parameter; tag, invoke ID, operation, parameter; invoke
