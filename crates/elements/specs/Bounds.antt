@@ -1,13 +1,12 @@
 -- WHERE WHAT IS READ LIES: after its position, and by its limit. Assumes nothing.
 use mathlib.Core.Path.{_≡_, refl, sym, _∙_, ap, subst}
-use mathlib.Core.Bool.{Bool, true, false, cond}
+use mathlib.Core.Bool.{Bool, true, false}
 use mathlib.Core.List.{List}
-use Prim.Native.Nat.{ℕ, zero, suc, _+_, _*_, _-_, _/_, _%_, _<_, _≤_}
+use Prim.Native.Nat.{ℕ, zero, suc, _+_, _-_, _<_, _≤_}
 use native.Mathlib.Omega.{arith}
 use lib.ListN.{getD}
-use lib.Dec.{ltb, eqb}
 use borrow.Author.Tests.{eqb-true}
-use Rattle.laws.specs.If.{ifLt, ifEq, was-lt, by-lt, by-eq, true-false}
+use Rattle.laws.specs.If.{ifEq, was-lt, by-lt, by-eq, true-false}
 use Rattle.paper.specs.declared.Length.{Length}
 use Rattle.paper.specs.declared.Length.the-variants.{Wrong, Given, Until}
 use Rattle.paper.specs.declared.Head.{Head}
@@ -176,3 +175,18 @@ frame-in s d lim at r e = subst (FrameIn at lim) (sym e) (go (headAt s lim at) r
     go (Whole c) q i = record { ordered = omega arith; inside = omega arith; ends = omega arith; past = λ z. omega arith }
     go (Holds b c) q i = record { ordered = omega arith; inside = omega arith; ends = omega arith; past = λ z. omega arith }
     go (Opens b) q i = to b (element s d lim at) (omega arith) (opens-in s d lim at b (element s d lim at) q refl) (element-in s d lim at (element s d lim at) refl)
+
+-- the end of an indefinite one is found as that of a well-formed element
+pub frame-ends : (s : List ℕ) (d lim at : ℕ) (f : Frame) → f ≡ frameAt s d lim at → (f .to ≡ f .stop → ⊥) → Ends (f .stop) ≡ element s d lim at
+unfolding frameAt
+frame-ends s d lim at f q some = go (headAt s lim at) q
+  where
+    to : (b : ℕ) (r : Reading) → f ≡ frameTo b r → Ends (f .stop) ≡ r
+    to b (Fault x) q = absurd (some (ap (λ (f : Frame). f .to) q ∙ sym (ap (λ (f : Frame). f .stop) q)))
+    to b (Ends x) q = ap (λ (f : Frame). Ends (f .stop)) q
+
+    go : (g : Head) → f ≡ frameBy g (λ _. element s d lim at) → Ends (f .stop) ≡ element s d lim at
+    go Bad q = absurd (some (ap (λ (f : Frame). f .to) q ∙ sym (ap (λ (f : Frame). f .stop) q)))
+    go (Whole c) q = absurd (some (ap (λ (f : Frame). f .to) q ∙ sym (ap (λ (f : Frame). f .stop) q)))
+    go (Holds b c) q = absurd (some (ap (λ (f : Frame). f .to) q ∙ sym (ap (λ (f : Frame). f .stop) q)))
+    go (Opens b) q = to b (element s d lim at) q

@@ -3,12 +3,12 @@
 use mathlib.Core.Path.{_≡_, refl, sym, _∙_, ap, subst}
 use mathlib.Core.Bool.{Bool, true, false}
 use mathlib.Core.List.{List}
-use Prim.Native.Nat.{ℕ, zero, suc, _+_, _*_, _-_, _/_, _%_, _<_, _≤_}
+use Prim.Native.Nat.{ℕ, zero, suc, _+_, _-_, _<_, _≤_}
 use native.Mathlib.Omega.{arith}
 use lib.ListN.{getD}
 use lib.Dec.{eqb}
 use borrow.Author.Tests.{eqb-true, eqb-false, eq-eqb, ne-eqb}
-use Rattle.laws.specs.If.{ifLt, ifEq, lt, ge, eq, ne, was-lt, was-eq, by-lt, by-eq, true-false}
+use Rattle.laws.specs.If.{ifEq, lt, ge, eq, ne, was-lt, was-eq, by-lt, by-eq, either-lt, true-false}
 use Rattle.paper.specs.declared.Length.{Length}
 use Rattle.paper.specs.declared.Length.the-variants.{Wrong, Given, Until}
 use Rattle.paper.specs.declared.Head.{Head}
@@ -17,7 +17,7 @@ use Rattle.paper.specs.declared.Reading.{Reading}
 use Rattle.paper.specs.declared.Reading.the-variants.{Ends, Fault}
 use Rattle.paper.specs.declared.Frame.{Frame}
 use Rattle.paper.specs.Elements.{tagMore, tagEnd, lengthAt, constructor, headBy, headAt, ended, endAt, onwards, orNext, contents, byHead, element, frameTo, frameBy, frameAt}
-use Rattle.elements.specs.Bounds.{LengthIn, HeadIn, ReadingIn, ContentsIn, more-in, tag-in, length-in, head-in, contents-in, element-in, opens-in}
+use Rattle.elements.specs.Bounds.{LengthIn, HeadIn, ContentsIn, more-in, tag-in, length-in, head-in, contents-in, element-in, opens-in}
 use Rattle.elements.specs.Steps.{at-end, next}
 
 -- the octets from at up to e stand k further in t
@@ -169,10 +169,6 @@ ends-is a b e = cc
 
 ends-never : {P : Type 0} (a b : ℕ) → Ends a ≡ Fault b → P
 ends-never a b e = absurd (let z : _≡_ {A = ℕ} 0 1 = cc in omega arith)
-
--- the same either way
-either-lt : {A : Type 0} {r : A} (a b : ℕ) (x y : A) → r ≡ x → r ≡ y → r ≡ ifLt a b x y
-either-lt a b x y p q = by-lt {r = ifLt a b x y} a b x y refl (λ h e. p ∙ sym e) (λ h e. q ∙ sym e)
 
 -- an element's first octet is no 0
 pub first-some : (s : List ℕ) (d lim at e : ℕ) → Ends e ≡ element s d lim at → getD s at 0 ≡ 0 → ⊥

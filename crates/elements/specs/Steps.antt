@@ -2,12 +2,11 @@
 use mathlib.Core.Path.{_≡_, refl, sym, _∙_, ap}
 use mathlib.Core.Bool.{Bool, true, false}
 use mathlib.Core.List.{List}
-use Prim.Native.Nat.{ℕ, zero, suc, _+_, _-_, _/_, _%_, _<_, _≤_}
+use Prim.Native.Nat.{ℕ, zero, suc, _+_, _-_, _<_}
 use native.Mathlib.Numerals.{sub-one}
 use native.Mathlib.Omega.{arith}
 use lib.ListN.{getD}
-use lib.Dec.{eqb}
-use Rattle.laws.specs.If.{ifLt, ifEq, lt, ge, eq, ne, was-lt, true-false}
+use Rattle.laws.specs.If.{ifLt, ifEq, eq, ne, was-lt, true-false}
 use Rattle.paper.specs.declared.Length.{Length}
 use Rattle.paper.specs.declared.Head.{Head}
 use Rattle.paper.specs.declared.Head.the-variants.{Bad}

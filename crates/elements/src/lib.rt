@@ -1,6 +1,5 @@
 // Elements read (01, "Coding"): tag, length, element and contents, frame. Positions into one slice; lim is where the octets around end.
 ghost use mathlib.Core.Path.{_≡_};
-ghost use mathlib.Core.Bool.{Bool};
 ghost use Prim.Native.Nat.{ℕ, _+_, _*_, _-_, _<_, _≤_};
 ghost use lib.ListN.{length};
 ghost use Rattle.paper.specs.Elements.{tagMore, tagEnd, lengthAt, headAt, ended, contents, element, frameAt};
@@ -9,6 +8,12 @@ use paper::Frame;
 use paper::Head;
 use paper::Length;
 use paper::Reading;
+
+const NO_FRAME: Frame = Frame {
+    from: 0,
+    to: 0,
+    stop: 0,
+};
 
 fn wide(x: u8) -> usize
     ensures { λ r. ⌜ (r ≡ x) × (r < 256) ⌝ }
@@ -205,11 +210,7 @@ pub fn frame_at(s: &[u8], left: usize, lim: usize, at: usize) -> Frame
     ensures within { λ r. ⌜ FrameIn at lim r ⌝ }
 {
     match head_at(s, lim, at) {
-        Head::Bad => Frame {
-            from: 0,
-            to: 0,
-            stop: 0,
-        },
+        Head::Bad => NO_FRAME,
         Head::Whole(e) => Frame {
             from: e,
             to: e,
@@ -226,11 +227,7 @@ pub fn frame_at(s: &[u8], left: usize, lim: usize, at: usize) -> Frame
                 to: x - 2,
                 stop: x,
             },
-            Reading::Fault(_f) => Frame {
-                from: 0,
-                to: 0,
-                stop: 0,
-            },
+            Reading::Fault(_f) => NO_FRAME,
         },
     }
 }

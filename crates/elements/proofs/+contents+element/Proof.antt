@@ -1,10 +1,9 @@
 use Rattle.elements.specs.Steps.{by-head, no-depth, element-told, From, at-end, no-more, next, room}
 use Rattle.elements.specs.Bounds.{HeadIn, ReadingIn}
-use Rattle.paper.specs.Elements.{onwards, contents, element}
-use Rattle.paper.specs.declared.Reading.{Reading}
+use Rattle.paper.specs.Elements.{contents, element}
 use Prim.Native.Nat.{_≤_, _+_, _-_, _*_}
 use mathlib.Core.Bool.{true, false}
-use mathlib.Core.Path.{_≡_, refl, sym, _∙_, ap, subst}
+use mathlib.Core.Path.{refl, sym, _∙_, subst}
 use native.Mathlib.Omega.{arith}
 use borrow.Author.Needs.{needs}
 use Prim.Native.Nat.{ℕ, _<_}

@@ -4,7 +4,6 @@ use Rattle.laws.specs.If.{lt, ge}
 use Prim.Native.Nat.{_≤_}
 use mathlib.Core.Path.{_≡_, refl, sym, _∙_}
 use native.Mathlib.Omega.{arith}
-use borrow.Author.Needs.{needs}
 use Rattle.elements.proofs.tag_more.Statement.{statement}
 use Rattle.elements.proofs.tag_more.Tie as tie
 
