@@ -1,29 +1,27 @@
 -- Given octets (operation, error, parameter, dialogue portion) where they are copied to. Assumes nothing.
 use native.Mathlib.Omega.{arith}
 use native.Mathlib.Nat.{add-zero}
-use Prim.Native.Nat.{ℕ, zero, suc, _+_, _-_, _/_, _%_, _<_, _≤_}
-use mathlib.Core.Path.{_≡_, refl, sym, _∙_, ap, subst}
-use mathlib.Core.Bool.{Bool, true, false, cond}
+use Prim.Native.Nat.{ℕ, zero, suc, _+_, _-_, _<_, _≤_}
+use mathlib.Core.Path.{_≡_, refl, sym, _∙_, ap}
+use mathlib.Core.Bool.{true, false}
 use mathlib.Core.Logic.{_⊎_, inl, inr, ⊎-elim}
-use mathlib.Core.List.{List, [], _∷_, _++_}
+use mathlib.Core.List.{List}
 use lib.ListN.{length, getD}
-use lib.Dec.{eqb}
-use borrow.Author.Tests.{eqb-true, eq-eqb}
-use Rattle.laws.specs.If.{ifLt, ifEq, ifB, lt, ge, eq, ne, by-lt, by-eq, was-lt, was-yes, true-false}
+use borrow.Author.Tests.{eqb-true}
+use Rattle.laws.specs.If.{lt, ge, eq, ne, by-lt, by-eq, true-false}
 use Rattle.paper.specs.declared.Length.{Length}
 use Rattle.paper.specs.declared.Length.the-variants.{Wrong, Given, Until}
 use Rattle.paper.specs.declared.Head.{Head}
 use Rattle.paper.specs.declared.Head.the-variants.{Bad, Whole, Holds, Opens}
 use Rattle.paper.specs.declared.Reading.{Reading}
 use Rattle.paper.specs.declared.Reading.the-variants.{Ends, Fault}
-use Rattle.paper.specs.declared.Frame.{Frame}
-use Rattle.paper.specs.Elements.{constructor, lengthAt, headBy, headAt, contents, byHead, element, frameTo, frameBy, frameAt}
-use Rattle.paper.specs.Components.{someEnd, codeEnd, oneElement}
-use Rattle.paper.specs.Dialogues.{endsAt, isElement, isCode, isParameter, isResult, isPortion}
+use Rattle.paper.specs.Elements.{constructor, lengthAt, headAt, contents, byHead, element, frameTo, frameBy, frameAt}
+use Rattle.paper.specs.Components.{someEnd, codeEnd}
+use Rattle.paper.specs.Dialogues.{endsAt, isElement, isCode}
 use Rattle.elements.specs.Bounds.{length-in, head-in, contents-in, element-in}
 use Rattle.elements.specs.Steps.{by-head}
 use Rattle.elements.specs.Carry.{element-carry, length-carry}
-use Rattle.readback.specs.Standing.{Has, has-head, has-tail, has-same, ShortTag, whole-head}
+use Rattle.readback.specs.Standing.{Has, has-same, ShortTag, whole-head}
 
 -- AN ELEMENT BY ITSELF stays one wherever it stands, with as many depths left
 pub ended-at : (n : ℕ) (r : Reading) → endsAt n r ≡ true → Ends n ≡ r

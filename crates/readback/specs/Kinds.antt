@@ -1,27 +1,25 @@
 -- Each kind of component, read where it was written. Assumes nothing.
 use native.Mathlib.Omega.{arith}
-use Prim.Native.Nat.{ℕ, zero, suc, _+_, _*_, _-_, _/_, _%_, _<_, _≤_}
-use mathlib.Core.Path.{_≡_, refl, sym, _∙_, ap, subst}
-use mathlib.Core.Bool.{Bool, true, false}
-use mathlib.Core.Logic.{_⊎_, inl, inr, ⊎-elim}
+use Prim.Native.Nat.{ℕ, _+_, _-_, _<_}
+use mathlib.Core.Path.{_≡_, refl, sym, _∙_, ap}
+use mathlib.Core.Bool.{true}
+use mathlib.Core.Logic.{_⊎_, ⊎-elim}
 use mathlib.Core.List.{List, [], _∷_, _++_}
 use lib.ListN.{length, getD, length-append}
 use borrow.Author.Tests.{eq-eqb}
-use Rattle.laws.specs.If.{ifLt, ifEq, ifB, lt, ge, eq, ne, yes, by-lt, by-eq}
-use Rattle.paper.specs.declared.Reading.{Reading}
-use Rattle.paper.specs.declared.Reading.the-variants.{Ends, Fault}
+use Rattle.laws.specs.If.{ifEq, lt, ge, eq, ne, yes, by-lt}
+use Rattle.paper.specs.declared.Reading.the-variants.{Ends}
 use Rattle.paper.specs.declared.Frame.{Frame}
-use Rattle.paper.specs.declared.Component.{Component}
-use Rattle.paper.specs.Elements.{constructor, element, frameAt}
-use Rattle.paper.specs.Problems.{senderOf, senderOfProblem, byNobody, kindOf, codeOf, problem, noProblem}
-use Rattle.paper.specs.Components.{invokeTag, lastTag, errorTag, rejectTag, notLastTag, knownTag, noID, sound, faulty, single, codeEnd, oneElement, lastPiece, invokePieces, resultBoth, resultPieces, problemAt, rejectPieces, nullPieces, piecesAfter, pieces, componentAt}
+use Rattle.paper.specs.Elements.{element, frameAt}
+use Rattle.paper.specs.Problems.{senderOf, senderOfProblem, byNobody, kindOf, codeOf, noProblem}
+use Rattle.paper.specs.Components.{invokeTag, errorTag, rejectTag, noID, sound, single, codeEnd, lastPiece, invokePieces, resultBoth, resultPieces, problemAt, rejectPieces, nullPieces, piecesAfter, pieces}
 use Rattle.paper.specs.Dialogues.{isElement}
-use Rattle.paper.specs.Writing.{lengthOctets, tlv, idThen, problemOctets}
-use Rattle.writing.specs.Lengths.{elementSize, element-length}
-use Rattle.readback.specs.Standing.{Has, Stands, has-head, has-tail, has-first, has-rest, has-at, ShortTag, Parts, done, more, begins, ends, octet-back, contents-back, holds-back, frame-back}
+use Rattle.paper.specs.Writing.{tlv, idThen, problemOctets}
+use Rattle.writing.specs.Lengths.{problem-small}
+use Rattle.readback.specs.Standing.{Has, Stands, has-head, has-first, has-rest, done, more, begins, ends, octet-back, contents-back, holds-back, frame-back}
 use Rattle.readback.specs.Written.{ResultTag, placed}
 use Rattle.readback.specs.Given.{Code, code-first}
-use Rattle.readback.specs.Pieces.{Both, both-parts, both-code, both-some, both-par, placed-none, placed-some, last-back, Reads, id-reads, single-back, single-element, null-element}
+use Rattle.readback.specs.Pieces.{Both, both-parts, both-code, both-some, both-par, placed-some, last-back, Reads, id-reads, single-back, single-element, null-element}
 
 -- no element of one octet with that tag begins there
 no-single : (s : List ℕ) (t e p : ℕ) → (getD s p 0 ≡ t → ⊥) → noID ≡ single s t e p
@@ -100,14 +98,6 @@ module _ {s : List ℕ} {b e : ℕ} (t id : ℕ) (tag : ResultTag t) (small : id
       ∙ result-pieces s t id e e p tag)
 
 -- A REJECT, with one of the nineteen problems
-sent : (k c r : ℕ) → r ≡ senderOf k c → (r ≡ byNobody → ⊥) → k < 4
-unfolding senderOf
-sent k c r e n =
-    by-eq _ _ _ _ e (λ z _. omega arith)
-    (λ y e. by-eq _ _ _ _ e (λ z _. omega arith)
-    (λ y e. by-eq _ _ _ _ e (λ z _. omega arith)
-    (λ y e. by-eq _ _ _ _ e (λ z _. omega arith) (λ y e. absurd (n e)))))
-
 nobody : senderOfProblem noProblem ≡ byNobody
 unfolding senderOf ifEq
 nobody = refl
@@ -126,7 +116,7 @@ module _ {s : List ℕ} {q e : ℕ} (p : ℕ) (by : senderOfProblem p ≡ byNobo
   pub problem-element : Ends (q + 3) ≡ element s 15 e q
   unfolding problemOctets
   problem-element =
-      let k : kindOf p < 4 = sent (kindOf p) (codeOf p) (senderOfProblem p) refl by in
+      let k : p < 1024 = problem-small p by in
       single-element has e (omega arith) 15 (λ z. omega arith) ((λ z. omega arith), (λ z. omega arith)) (omega arith)
 
   pub reject-pieces : (id : ℕ) → sound rejectTag id noID p e 0 0 ≡ rejectPieces s id e e q

@@ -6,3 +6,5 @@ pub mod Kinds
 pub mod Listing
 pub mod Reading
 pub mod Order
+pub mod Places
+pub mod ReadBack

@@ -1,26 +1,25 @@
 -- A component of any kind, and components one after another, read where they were written. Assumes nothing.
 use native.Mathlib.Omega.{arith}
-use Prim.Native.Nat.{ℕ, zero, suc, _+_, _*_, _-_, _/_, _%_, _<_, _≤_}
+use Prim.Native.Nat.{ℕ, zero, suc, _+_, _-_, _<_, _≤_}
 use mathlib.Core.Path.{_≡_, refl, sym, _∙_, ap, subst}
-use mathlib.Core.Bool.{Bool, true, false}
-use mathlib.Core.Logic.{_⊎_, inl, inr, ⊎-elim}
+use mathlib.Core.Bool.{Bool, true}
+use mathlib.Core.Logic.{_⊎_, ⊎-elim}
 use mathlib.Core.List.{List, [], _∷_, _++_}
 use lib.ListN.{length, length-append}
 use lib.Dec.{ltb}
 use borrow.Author.Tests.{eqb-true, lt-ltb, le-ltb}
-use Rattle.laws.specs.If.{ifEq, ifB, eq, by-eq, was-yes, true-false}
-use Rattle.paper.specs.declared.Reading.{Reading}
-use Rattle.paper.specs.declared.Reading.the-variants.{Ends, Fault}
+use Rattle.laws.specs.If.{ifEq, eq, by-eq, was-yes, true-false}
+use Rattle.paper.specs.declared.Reading.the-variants.{Ends}
 use Rattle.paper.specs.declared.Component.{Component}
 use Rattle.paper.specs.Sizes.{depths}
-use Rattle.paper.specs.Elements.{constructor, element}
-use Rattle.paper.specs.Problems.{senderOfProblem, byNobody, noProblem}
-use Rattle.paper.specs.Components.{invokeTag, lastTag, errorTag, rejectTag, notLastTag, knownTag, noID, sound, componentAt, Item, item, nextStart, goOn, items, components}
-use Rattle.paper.specs.Dialogues.{endsAt, isElement, isCode, isParameter, isResult}
-use Rattle.paper.specs.Writing.{lengthOctets, tlv, idThen, invokeOctets, resultOctets, errorOctets, problemOctets, rejectOctets}
+use Rattle.paper.specs.Elements.{element}
+use Rattle.paper.specs.Problems.{noProblem}
+use Rattle.paper.specs.Components.{invokeTag, errorTag, rejectTag, knownTag, noID, sound, componentAt, Item, item, nextStart, goOn, items, components}
+use Rattle.paper.specs.Dialogues.{isElement, isCode, isParameter, isResult}
+use Rattle.paper.specs.Writing.{tlv, idThen, invokeOctets, resultOctets, errorOctets, problemOctets, rejectOctets}
 use Rattle.elements.specs.Bounds.{element-in}
-use Rattle.writing.specs.Lengths.{elementSize, element-length, invoke-plain, invoke-linked, result-none, result-both, reject-none, reject-some}
-use Rattle.readback.specs.Standing.{Has, has-as, has-first, has-rest, ShortTag}
+use Rattle.writing.specs.Lengths.{element-length, invoke-plain, invoke-linked, result-none, result-both, reject-none, reject-some}
+use Rattle.readback.specs.Standing.{Has, has-first, has-rest}
 use Rattle.readback.specs.Written.{Written, Invoke, Result, Error, Reject, octetsOf, ResultTag, Allowed, placed, readAs, joined, AllAllowed, itemsFrom}
 use Rattle.readback.specs.Given.{Code, code-told, ended-at}
 use Rattle.readback.specs.Pieces.{Tagged, Reads, glue, placed-none}
@@ -55,7 +54,7 @@ unfolding isResult
 both-told op par h some =
     by-eq _ _ _ _ (sym h) (λ z _. absurd (some z)) (λ z e. let w = was-yes _ _ _ e true-false in (w .0, sym (w .1)))
 
-result-empty : (op par : List ℕ) → isResult op par ≡ true → length op ≡ 0 → length par ≡ 0
+pub result-empty : (op par : List ℕ) → isResult op par ≡ true → length op ≡ 0 → length par ≡ 0
 unfolding isResult
 result-empty op par h none = by-eq _ _ _ _ (sym h) (λ z e. eqb-true (length par) 0 (sym e)) (λ z _. absurd (z none))
 
@@ -70,7 +69,7 @@ module _ (s : List ℕ) (lim at : ℕ) where
 
   invoke-told : (id linked : ℕ) (op par : List ℕ) → Allowed (Invoke id linked op par) → Told (invokeOctets id linked op par) (readAs (Invoke id linked op par))
   unfolding Told readAs
-  invoke-told id linked op par (small , most , code , formed) =
+  invoke-told id linked op par (small, most, code, formed) =
       let f : ℕ → Component = λ x. placed invokeTag id linked noProblem x (length par) in
       let c : Code op = code-told op code in
       by-eq {A = ℕ} linked noID 0 0 refl
@@ -84,7 +83,7 @@ module _ (s : List ℕ) (lim at : ℕ) where
 
   result-told : (t id : ℕ) (op par : List ℕ) → Allowed (Result t id op par) → Told (resultOctets t id op par) (readAs (Result t id op par))
   unfolding Told readAs
-  result-told t id op par (tag , small , formed) =
+  result-told t id op par (tag, small, formed) =
       let f : ℕ → Component = λ x. placed t id noID noProblem x (length par) in
       by-eq {A = ℕ} (length op) 0 0 0 refl
       (λ z _. subst (λ (o : List ℕ). Told o f) (result-none op par t id z)
@@ -100,13 +99,13 @@ module _ (s : List ℕ) (lim at : ℕ) where
 
   error-told : (id : ℕ) (err par : List ℕ) → Allowed (Error id err par) → Told (errorOctets id err par) (readAs (Error id err par))
   unfolding Told readAs errorOctets
-  error-told id err par (small , code , formed) has fits room =
+  error-told id err par (small, code, formed) has fits room =
       glue errorTag (idThen id (err ++ par)) (λ x. placed errorTag id noID noProblem x (length par)) error-tagged has fits room
       (λ b e h w. error-reads id err par small (code-told err code) (parameter-told par formed) h (omega (arith, length-append err par)))
 
   reject-told : (id p : ℕ) → Allowed (Reject id p) → Told (rejectOctets id p) (readAs (Reject id p))
   unfolding Told readAs problemOctets
-  reject-told id p (most , by) =
+  reject-told id p (most, by) =
       let f : ℕ → Component = λ x. placed rejectTag id noID p x 0 in
       by-eq {A = ℕ} id noID 0 0 refl
       (λ z _. subst (λ (o : List ℕ). Told o f) (reject-none id p z)

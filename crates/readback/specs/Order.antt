@@ -1,24 +1,22 @@
 -- Each message as it was written, read: its IDs in order, then what follows them. Assumes nothing.
 use native.Mathlib.Omega.{arith}
-use Prim.Native.Nat.{ℕ, zero, suc, _+_, _-_, _%_, _<_, _≤_}
-use mathlib.Core.Path.{_≡_, refl, sym, _∙_, ap, subst}
-use mathlib.Core.Bool.{Bool, true, false}
+use Prim.Native.Nat.{ℕ, _+_, _-_, _<_, _≤_}
+use mathlib.Core.Path.{_≡_, refl, sym, _∙_, ap}
+use mathlib.Core.Bool.{true, false}
 use mathlib.Core.List.{List, [], _∷_, _++_}
 use lib.ListN.{length, getD, length-append}
 use Rattle.laws.specs.If.{ifEq, eq, ne}
 use Rattle.paper.specs.declared.Run.{Run}
 use Rattle.paper.specs.declared.Message.{Message}
-use Rattle.paper.specs.Elements.{constructor}
-use Rattle.paper.specs.Problems.{noProblem}
-use Rattle.paper.specs.Messages.{uniTag, beginTag, endTag, continueTag, abortTag, noRun, idAt, originOf, past, destinationOf, Derived, derived, faultOf, soundOf, portionPart, inOrder, knownType, messageOf}
+use Rattle.paper.specs.Messages.{uniTag, beginTag, endTag, continueTag, abortTag, noRun, idAt, originOf, past, destinationOf, Derived, portionPart, inOrder, knownType, messageOf}
 use Rattle.paper.specs.Dialogues.{isPortion}
 use Rattle.paper.specs.Calls.{octetsAt}
-use Rattle.paper.specs.Writing.{lengthOctets, tlv, componentsOctets, beginOctets, continueOctets, endOctets, uniOctets, userAbortOctets, causeAbortOctets}
+use Rattle.paper.specs.Writing.{tlv, componentsOctets, beginOctets, continueOctets, endOctets, uniOctets, userAbortOctets, causeAbortOctets}
 use Rattle.writing.specs.Heads.{componentsHead, components-joined}
-use Rattle.writing.specs.Lengths.{elementSize, element-length, id-length}
-use Rattle.readback.specs.Standing.{Has, has-first, has-rest, has-at, ShortTag, begins, ends, octet-back, contents-back}
-use Rattle.readback.specs.Written.{Back}
-use Rattle.readback.specs.Reading.{run, fromOf, toOf, has-octets, id-back, id-has, derived-as, outer-stands, outer-back, end-octets, components-part, components-has, user-part, cause-part}
+use Rattle.writing.specs.Lengths.{element-length, id-length}
+use Rattle.readback.specs.Standing.{Has, has-first, has-rest, has-at, ShortTag, ends, octet-back, contents-back}
+use Rattle.readback.specs.Written.{starts, run, readBegin, readContinue, readEnd, readUni, readUserAbort, readCauseAbort, Back}
+use Rattle.readback.specs.Reading.{has-octets, id-back, id-has, derived-as, outer-stands, outer-back, end-octets, components-part, components-has, user-part, cause-part}
 
 -- an ID that was read, and where the octets after it begin
 past-back : (b p n : ℕ) → 1 ≤ n → p + 2 + n ≡ past (run (p + 2) n) b
@@ -30,10 +28,6 @@ record First (t k : ℕ) (id rest : List ℕ) : Type 0 where
   some : 1 ≤ length id
   few : length id ≤ 4
   fits : length (tlv k id ++ rest) < 65536
-
--- where its contents begin
-abbrev pub starts : List ℕ → ℕ
-starts c = begins 0 (length c)
 
 module _ {t k : ℕ} {id rest : List ℕ} (f : First t k id rest) where
   abbrev s : List ℕ
@@ -88,9 +82,7 @@ contents-fit t c h = omega (arith, element-length t c)
 -- THE MESSAGES
 module _ (peer : List ℕ) (some : 1 ≤ length peer) (few : length peer ≤ 4) where
   pub end-back : (cs : List ℕ) → length (endOctets peer cs) < 65536
-      → (let s = endOctets peer cs in
-      Back s (soundOf (record { tag = endTag; origin = noRun; destination = run (starts (tlv 0x49 peer ++ componentsOctets cs) + 2) (length peer) })
-      noRun (fromOf (length s) (length cs)) (toOf (length s) (length cs)) noProblem) [] peer [] cs)
+      → Back (endOctets peer cs) (readEnd peer cs) [] peer [] cs
   unfolding endOctets knownType originOf destinationOf
   end-back cs h =
       let rest : List ℕ = componentsOctets cs in
@@ -116,9 +108,7 @@ module _ (peer : List ℕ) (some : 1 ≤ length peer) (few : length peer ≤ 4) 
   abort-first f m is = peer-first f refl (λ z. omega arith) (λ z. omega arith) refl refl m is
 
   pub user-abort-back : (user : List ℕ) → isPortion user ≡ true → length (userAbortOctets peer user) < 65536
-      → (let s = userAbortOctets peer user in
-      Back s (soundOf (record { tag = abortTag; origin = noRun; destination = run (starts (tlv 0x49 peer ++ user) + 2) (length peer) })
-      (run (fromOf (length s) (length user)) (length user)) 0 0 noProblem) [] peer user [])
+      → Back (userAbortOctets peer user) (readUserAbort peer user) [] peer user []
   unfolding userAbortOctets
   user-abort-back user formed h =
       let f : First abortTag 0x49 peer user =
@@ -133,8 +123,7 @@ module _ (peer : List ℕ) (some : 1 ≤ length peer) (few : length peer ≤ 4) 
       }
 
   pub cause-abort-back : (cause : ℕ) → cause < 5
-      → (let s = causeAbortOctets peer cause in
-      Back s (soundOf (record { tag = abortTag; origin = noRun; destination = run (starts (tlv 0x49 peer ++ (0x4A ∷ 1 ∷ cause ∷ [])) + 2) (length peer) }) noRun 0 0 cause) [] peer [] [])
+      → Back (causeAbortOctets peer cause) (readCauseAbort peer cause) [] peer [] []
   unfolding causeAbortOctets
   cause-abort-back cause small =
       let f : First abortTag 0x49 peer (0x4A ∷ 1 ∷ cause ∷ []) = record {
@@ -155,9 +144,7 @@ module _ (peer : List ℕ) (some : 1 ≤ length peer) (few : length peer ≤ 4) 
 -- THE ORIGINATING ID FIRST
 module _ (own : List ℕ) (some : 1 ≤ length own) (few : length own ≤ 4) where
   pub begin-back : (cs : List ℕ) → length (beginOctets own cs) < 65536
-      → (let s = beginOctets own cs in
-      Back s (soundOf (record { tag = beginTag; origin = run (starts (tlv 0x48 own ++ componentsOctets cs) + 2) (length own); destination = noRun })
-      noRun (fromOf (length s) (length cs)) (toOf (length s) (length cs)) noProblem) own [] [] cs)
+      → Back (beginOctets own cs) (readBegin own cs) own [] [] cs
   unfolding beginOctets knownType originOf destinationOf inOrder
   begin-back cs h =
       let rest : List ℕ = componentsOctets cs in
@@ -184,9 +171,7 @@ module _ (own : List ℕ) (some : 1 ≤ length own) (few : length own ≤ 4) whe
       }
 
   pub continue-back : (peer : List ℕ) → 1 ≤ length peer → length peer ≤ 4 → (cs : List ℕ) → length (continueOctets own peer cs) < 65536
-      → (let s = continueOctets own peer cs in let b = starts (tlv 0x48 own ++ (tlv 0x49 peer ++ componentsOctets cs)) in
-      Back s (soundOf (record { tag = continueTag; origin = run (b + 2) (length own); destination = run (b + 2 + length own + 2) (length peer) })
-      noRun (fromOf (length s) (length cs)) (toOf (length s) (length cs)) noProblem) own peer [] cs)
+      → Back (continueOctets own peer cs) (readContinue own peer cs) own peer [] cs
   unfolding continueOctets knownType originOf destinationOf inOrder
   continue-back peer least most cs h =
       let after : List ℕ = componentsOctets cs in
@@ -227,8 +212,7 @@ module _ (own : List ℕ) (some : 1 ≤ length own) (few : length own ≤ 4) whe
 
 -- A UNIDIRECTIONAL, which needs components
 pub uni-back : (cs : List ℕ) → (length cs ≡ 0 → ⊥) → length (uniOctets cs) < 65536
-    → (let s = uniOctets cs in
-    Back s (soundOf (record { tag = uniTag; origin = noRun; destination = noRun }) noRun (fromOf (length s) (length cs)) (toOf (length s) (length cs)) noProblem) [] [] [] cs)
+    → Back (uniOctets cs) (readUni cs) [] [] [] cs
 unfolding uniOctets knownType originOf destinationOf inOrder
 uni-back cs some h =
     let rest : List ℕ = componentsOctets cs in

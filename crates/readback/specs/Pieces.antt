@@ -1,32 +1,24 @@
 -- A component's pieces, read where they were written. Assumes nothing.
 use native.Mathlib.Omega.{arith}
-use native.Mathlib.Nat.{add-zero}
-use Prim.Native.Nat.{ℕ, zero, suc, _+_, _*_, _-_, _/_, _%_, _<_, _≤_}
-use mathlib.Core.Path.{_≡_, refl, sym, _∙_, ap, subst}
-use mathlib.Core.Bool.{Bool, true, false}
-use mathlib.Core.Logic.{_⊎_, inl, inr, ⊎-elim}
-use mathlib.Core.List.{List, [], _∷_, _++_}
-use lib.ListN.{length, getD, length-append}
-use lib.Dec.{eqb}
-use borrow.Author.Tests.{eqb-true, eq-eqb}
-use Rattle.laws.specs.If.{ifLt, ifEq, ifB, lt, ge, eq, ne, yes, by-lt, by-eq, true-false}
-use Rattle.paper.specs.declared.Length.{Length}
-use Rattle.paper.specs.declared.Length.the-variants.{Given}
-use Rattle.paper.specs.declared.Head.{Head}
-use Rattle.paper.specs.declared.Head.the-variants.{Whole}
+use Prim.Native.Nat.{ℕ, _+_, _-_, _<_, _≤_}
+use mathlib.Core.Path.{_≡_, refl, sym, _∙_, ap}
+use mathlib.Core.Bool.{true}
+use mathlib.Core.List.{List, _∷_, _++_}
+use lib.ListN.{length, getD}
+use borrow.Author.Tests.{eq-eqb}
+use Rattle.laws.specs.If.{ifLt, ifEq, lt, ge, eq, ne, yes, by-eq}
 use Rattle.paper.specs.declared.Reading.{Reading}
-use Rattle.paper.specs.declared.Reading.the-variants.{Ends, Fault}
+use Rattle.paper.specs.declared.Reading.the-variants.{Ends}
 use Rattle.paper.specs.declared.Frame.{Frame}
 use Rattle.paper.specs.declared.Component.{Component}
 use Rattle.paper.specs.Sizes.{depths}
-use Rattle.paper.specs.Elements.{constructor, lengthAt, element, frameAt}
+use Rattle.paper.specs.Elements.{constructor, element, frameAt}
 use Rattle.paper.specs.Problems.{noProblem}
-use Rattle.paper.specs.Components.{invokeTag, lastTag, errorTag, rejectTag, notLastTag, knownTag, noID, sound, faulty, single, codeEnd, oneElement, lastPiece, piecesAfter, pieces, readProblem, ifNested, framed, tagAt, componentAt}
+use Rattle.paper.specs.Components.{knownTag, sound, faulty, single, codeEnd, oneElement, lastPiece, piecesAfter, pieces, readProblem, ifNested, framed, tagAt, componentAt}
 use Rattle.paper.specs.Dialogues.{isElement}
-use Rattle.paper.specs.Writing.{lengthOctets, tlv}
-use Rattle.elements.specs.Steps.{by-head}
+use Rattle.paper.specs.Writing.{tlv}
 use Rattle.writing.specs.Lengths.{elementSize, element-length}
-use Rattle.readback.specs.Standing.{Has, Stands, short-element, has-head, has-tail, has-first, has-rest, has-at, ShortTag, whole-head, Parts, done, more, begins, ends, octet-back, contents-back, holds-back, frame-back}
+use Rattle.readback.specs.Standing.{Has, Stands, short-element, has-head, has-first, has-rest, ShortTag, Parts, done, more, begins, ends, octet-back, contents-back, holds-back, frame-back}
 use Rattle.readback.specs.Written.{placed}
 use Rattle.readback.specs.Given.{Code, element-copied, ends-frame, code-copied, code-element}
 

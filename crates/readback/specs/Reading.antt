@@ -1,36 +1,27 @@
 -- Messages as they were written, read: their outer element, IDs in order, then a portion or components. Assumes nothing.
 use native.Mathlib.Omega.{arith}
 use native.Mathlib.Nat.{add-zero}
-use Prim.Native.Nat.{ℕ, zero, suc, _+_, _*_, _-_, _/_, _%_, _<_, _≤_}
-use mathlib.Core.Path.{_≡_, refl, sym, _∙_, ap, subst}
-use mathlib.Core.Bool.{Bool, true, false}
-use mathlib.Core.List.{List, [], _∷_, _++_}
+use Prim.Native.Nat.{ℕ, suc, _+_, _-_, _%_, _<_, _≤_}
+use mathlib.Core.Path.{_≡_, refl, sym, _∙_, ap}
+use mathlib.Core.Bool.{true, false}
+use mathlib.Core.List.{List, [], _∷_}
 use lib.ListN.{length, getD, take, drop, length-append, length-take, length-drop}
 use lib.Seq.{ext-getD, getD-take, getD-drop}
-use lib.Dec.{eqb}
 use borrow.Author.Tests.{eq-eqb}
-use Rattle.laws.specs.If.{ifLt, ifEq, ifB, lt, ge, eq, ne, yes, by-eq, was-eq, true-false}
-use Rattle.paper.specs.declared.Length.{Length}
-use Rattle.paper.specs.declared.Length.the-variants.{Wrong, Given, Until}
-use Rattle.paper.specs.declared.Reading.{Reading}
-use Rattle.paper.specs.declared.Reading.the-variants.{Ends, Fault}
-use Rattle.paper.specs.declared.Frame.{Frame}
+use Rattle.laws.specs.If.{ifEq, lt, ge, eq, ne, yes, by-eq, was-eq, true-false}
 use Rattle.paper.specs.declared.Run.{Run}
 use Rattle.paper.specs.declared.Message.{Message}
 use Rattle.paper.specs.Sizes.{depths}
-use Rattle.paper.specs.Elements.{constructor, lengthAt, element, frameAt}
 use Rattle.paper.specs.Problems.{noProblem}
-use Rattle.paper.specs.Messages.{uniTag, beginTag, endTag, continueTag, abortTag, noRun, idAt, originOf, past, destinationOf, Derived, derived, faultOf, soundOf, closes, closing, octetAt, componentsBy, componentsPart, abortPart, afterPortion, portionPart, inOrder, knownType, typed, byLength, messageOf}
+use Rattle.paper.specs.Messages.{uniTag, abortTag, noRun, idAt, originOf, destinationOf, Derived, derived, faultOf, soundOf, closes, closing, octetAt, componentsBy, componentsPart, abortPart, afterPortion, portionPart, inOrder, knownType, typed, byLength, messageOf}
 use Rattle.paper.specs.Dialogues.{isElement, isPortion}
 use Rattle.paper.specs.Calls.{octetsAt}
-use Rattle.paper.specs.Writing.{lengthOctets, tlv, componentsOctets}
+use Rattle.paper.specs.Writing.{tlv, componentsOctets}
 use Rattle.writing.specs.Heads.{componentsHead, components-joined}
-use Rattle.writing.specs.Lengths.{elementSize, element-length, id-of, id-length}
-use Rattle.readback.specs.Standing.{Has, Stands, has-all, has-as, has-head, has-tail, has-first, has-rest, has-at, ShortTag, begins, ends, octet-back, given-back, contents-back, frame-back}
+use Rattle.writing.specs.Lengths.{element-length, id-of}
+use Rattle.readback.specs.Standing.{Has, Stands, has-all, has-as, has-head, has-rest, has-at, ShortTag, begins, ends, octet-back, given-back, frame-back}
+use Rattle.readback.specs.Written.{run, fromOf, toOf, withComponents}
 use Rattle.readback.specs.Given.{element-copied}
-
-abbrev pub run : ℕ → ℕ → Run
-run p n = record { start = p; length = n }
 
 -- the octets of a run are those that stand there
 pub has-octets : {s vs : List ℕ} {p : ℕ} → Has s p vs → p + length vs ≤ length s → octetsAt s (run p (length vs)) ≡ vs
@@ -99,13 +90,6 @@ closed : (s : List ℕ) (p : ℕ) (D : Derived) (m : Message) → p ≡ length s
 unfolding closes
 closed s p D m e = yes _ _ _ (eq-eqb p (length s) e) refl
 
--- components of n octets at the end of a message of x octets: from and to
-abbrev pub fromOf : ℕ → ℕ → ℕ
-fromOf x n = ifEq n 0 0 (x - n)
-
-abbrev pub toOf : ℕ → ℕ → ℕ
-toOf x n = ifEq n 0 0 x
-
 -- octets that end with the message stand there
 pub end-has : {s vs : List ℕ} {q : ℕ} (x : ℕ) → Has s q vs → q + length vs ≡ x → (Has s (fromOf x (length vs)) vs) × (fromOf x (length vs) + length vs ≡ toOf x (length vs))
 end-has {s} {vs} {q} x has whole =
@@ -129,11 +113,8 @@ end-octets {s} {vs} {q} has whole =
 
 -- COMPONENTS AFTER THE IDs
 module _ {s : List ℕ} {p : ℕ} (cs : List ℕ) (has : Has s p (componentsOctets cs)) (whole : p + length (componentsOctets cs) ≡ length s) (fits : length cs < 65536) where
-  Sound : Derived → Message
-  Sound D = soundOf D noRun (fromOf (length s) (length cs)) (toOf (length s) (length cs)) noProblem
-
-  none-part : (D : Derived) → (D .tag ≡ abortTag → ⊥) → (D .tag ≡ uniTag → ⊥) → length cs ≡ 0 → Sound D ≡ portionPart s false D p
-  unfolding Sound portionPart componentsPart componentsOctets
+  none-part : (D : Derived) → (D .tag ≡ abortTag → ⊥) → (D .tag ≡ uniTag → ⊥) → length cs ≡ 0 → withComponents s cs D ≡ portionPart s false D p
+  unfolding portionPart componentsPart componentsOctets
   none-part D first second z =
       let empty : [] ≡ componentsOctets cs = eq (length cs) 0 [] (tlv 0x6C cs) z refl in
       let last : p ≡ length s = omega (arith, ap length empty) in
@@ -143,8 +124,8 @@ module _ {s : List ℕ} {p : ℕ} (cs : List ℕ) (has : Has s p (componentsOcte
       ∙ closed s p D (soundOf D noRun 0 0 noProblem) last
       ∙ ne _ _ _ _ (λ y. omega arith) (ne _ _ _ _ first (ne _ _ _ _ (λ y. omega arith) (ne _ _ _ _ second refl)))
 
-  some-part : (D : Derived) → (D .tag ≡ abortTag → ⊥) → (length cs ≡ 0 → ⊥) → Sound D ≡ portionPart s false D p
-  unfolding Sound portionPart componentsPart componentsBy componentsOctets
+  some-part : (D : Derived) → (D .tag ≡ abortTag → ⊥) → (length cs ≡ 0 → ⊥) → withComponents s cs D ≡ portionPart s false D p
+  unfolding portionPart componentsPart componentsBy componentsOctets
   some-part D first z =
       let n : ℕ = length cs in
       let full : tlv 0x6C cs ≡ componentsOctets cs = ne (length cs) 0 [] (tlv 0x6C cs) z refl in
@@ -162,8 +143,7 @@ module _ {s : List ℕ} {p : ℕ} (cs : List ℕ) (has : Has s p (componentsOcte
       ∙ ne _ _ _ _ (λ y. omega arith) (ne _ _ _ _ first (eq _ _ _ _ (sym tag) refl))
 
   pub components-part : (D : Derived) → (D .tag ≡ abortTag → ⊥) → (length cs ≡ 0 → D .tag ≡ uniTag → ⊥)
-      → soundOf D noRun (fromOf (length s) (length cs)) (toOf (length s) (length cs)) noProblem ≡ portionPart s false D p
-  unfolding Sound
+      → withComponents s cs D ≡ portionPart s false D p
   components-part D first second = by-eq {A = ℕ} (length cs) 0 0 0 refl (λ z _. none-part D first (second z) z) (λ z _. some-part D first z)
 
   -- they stand there

@@ -1,29 +1,25 @@
 -- Octets that stand in a list; written elements read where they stand. Assumes nothing.
 use native.Mathlib.Omega.{arith}
 use native.Mathlib.Nat.{add-zero, add-assoc, zero-add}
-use Prim.Native.Nat.{ℕ, zero, suc, _+_, _-_, _*_, _/_, _%_, _<_, _≤_}
+use Prim.Native.Nat.{ℕ, suc, _+_, _-_, _/_, _%_, _<_, _≤_}
 use mathlib.Core.Path.{_≡_, refl, sym, _∙_, ap, subst}
-use mathlib.Core.Bool.{Bool, true, false}
+use mathlib.Core.Bool.{false}
 use mathlib.Core.List.{List, [], _∷_, _++_}
 use lib.ListN.{length, getD, length-append, List·getD-append}
 use lib.Seq.{getD-append-add}
-use lib.Dec.{eqb}
 use borrow.Author.Tests.{eq-eqb, ne-eqb}
-use Rattle.laws.specs.If.{ifLt, ifEq, lt, ge, eq, ne, by-lt}
+use Rattle.laws.specs.If.{lt, ge, eq, ne, by-lt}
 use Rattle.laws.specs.Runs.{Wrote, inside}
-use Rattle.paper.specs.declared.Length.{Length}
 use Rattle.paper.specs.declared.Length.the-variants.{Given}
 use Rattle.paper.specs.declared.Head.{Head}
 use Rattle.paper.specs.declared.Head.the-variants.{Whole, Holds}
-use Rattle.paper.specs.declared.Reading.{Reading}
-use Rattle.paper.specs.declared.Reading.the-variants.{Ends, Fault}
-use Rattle.paper.specs.declared.Frame.{Frame}
-use Rattle.paper.specs.Elements.{tagEnd, lengthAt, constructor, headBy, headAt, ended, contents, byHead, element, frameBy, frameAt}
+use Rattle.paper.specs.declared.Reading.the-variants.{Ends}
+use Rattle.paper.specs.Elements.{tagEnd, lengthAt, constructor, headBy, headAt, ended, contents, element, frameBy, frameAt}
 use Rattle.paper.specs.Writing.{lengthOctets, tlv}
 use Rattle.elements.specs.Bounds.{element-in}
 use Rattle.elements.specs.Steps.{after-tag, by-head, at-end, next}
-use Rattle.elements.specs.Carry.{Same, element-carry}
-use Rattle.writing.specs.Lengths.{length-one, length-two, length-three, elementSize, element-length}
+use Rattle.elements.specs.Carry.{Same}
+use Rattle.writing.specs.Lengths.{length-one, length-two, length-three}
 
 -- s has the octets vs from at on
 pub record Has (s : List ℕ) (at : ℕ) (vs : List ℕ) : Type 0 where

@@ -1,19 +1,20 @@
 -- WHAT IS WRITTEN, AND AS WHAT IT IS TO BE READ (01, "Coding"). Assumes nothing.
-use Prim.Native.Nat.{ℕ, zero, suc, _+_, _-_, _<_, _≤_}
+use Prim.Native.Nat.{ℕ, _+_, _-_, _<_, _≤_}
 use mathlib.Core.Path.{_≡_}
-use mathlib.Core.Bool.{Bool, true}
+use mathlib.Core.Bool.{true}
 use mathlib.Core.Logic.{_⊎_}
 use mathlib.Core.List.{List, [], _∷_, _++_}
 use lib.ListN.{length}
 use Rattle.laws.specs.If.{ifEq}
 use Rattle.paper.specs.declared.Component.{Component}
+use Rattle.paper.specs.declared.Run.{Run}
 use Rattle.paper.specs.declared.Message.{Message}
 use Rattle.paper.specs.Problems.{senderOfProblem, byNobody, noProblem}
 use Rattle.paper.specs.Components.{invokeTag, lastTag, errorTag, rejectTag, notLastTag, noID, sound, Item}
-use Rattle.paper.specs.Messages.{messageOf}
+use Rattle.paper.specs.Messages.{uniTag, beginTag, endTag, continueTag, abortTag, noRun, Derived, soundOf, messageOf}
 use Rattle.paper.specs.Dialogues.{isCode, isParameter, isResult}
 use Rattle.paper.specs.Calls.{octetsAt}
-use Rattle.paper.specs.Writing.{invokeOctets, resultOctets, errorOctets, rejectOctets}
+use Rattle.paper.specs.Writing.{lengthOctets, tlv, invokeOctets, resultOctets, errorOctets, rejectOctets, componentsOctets, beginOctets, continueOctets, endOctets, uniOctets, userAbortOctets}
 use Rattle.readback.specs.Standing.{Has}
 
 -- A COMPONENT, by its parts: invoke ID, linked ID (256 none), operation, parameter; tag, invoke ID, operation, parameter; invoke
@@ -52,6 +53,13 @@ readAs (Result tag id op par) x = placed tag id noID noProblem x (length par)
 readAs (Error id err par) x = placed errorTag id noID noProblem x (length par)
 readAs (Reject id p) x = placed rejectTag id noID p x 0
 
+-- its parameter, none in a reject
+abbrev pub parameterOf : Written → List ℕ
+parameterOf (Invoke id linked op par) = par
+parameterOf (Result tag id op par) = par
+parameterOf (Error id err par) = par
+parameterOf (Reject id p) = []
+
 -- COMPONENTS one after another
 unfoldable pub joined : List Written → List ℕ
 joined [] = []
@@ -65,7 +73,52 @@ unfoldable pub itemsFrom : ℕ → List Written → List Item
 itemsFrom at [] = []
 itemsFrom at (w ∷ ws) = record { start = at; part = readAs w (at + length (octetsOf w)) } ∷ itemsFrom (at + length (octetsOf w)) ws
 
--- A MESSAGE s that is read as m, whose IDs, dialogue portion and components are the octets put in
+-- A MESSAGE: where its contents begin, a run of its octets, and n octets at its end, x: from and to (0 and 0 for none)
+abbrev pub starts : List ℕ → ℕ
+starts c = 1 + length (lengthOctets (length c))
+
+abbrev pub run : ℕ → ℕ → Run
+run p n = record { start = p; length = n }
+
+abbrev pub fromOf : ℕ → ℕ → ℕ
+fromOf x n = ifEq n 0 0 (x - n)
+
+abbrev pub toOf : ℕ → ℕ → ℕ
+toOf x n = ifEq n 0 0 x
+
+-- a sound message s with its type and IDs, and components cs at its end; an Abort, with the user's octets at its end, or a cause
+abbrev pub withComponents : List ℕ → List ℕ → Derived → Message
+withComponents s cs d = soundOf d noRun (fromOf (length s) (length cs)) (toOf (length s) (length cs)) noProblem
+
+abbrev pub readBegin : List ℕ → List ℕ → Message
+readBegin own cs =
+    withComponents (beginOctets own cs) cs
+    (record { tag = beginTag; origin = run (starts (tlv 0x48 own ++ componentsOctets cs) + 2) (length own); destination = noRun })
+
+abbrev pub readContinue : List ℕ → List ℕ → List ℕ → Message
+readContinue own peer cs =
+    let b = starts (tlv 0x48 own ++ (tlv 0x49 peer ++ componentsOctets cs)) in
+    withComponents (continueOctets own peer cs) cs
+    (record { tag = continueTag; origin = run (b + 2) (length own); destination = run (b + 2 + length own + 2) (length peer) })
+
+abbrev pub readEnd : List ℕ → List ℕ → Message
+readEnd peer cs =
+    withComponents (endOctets peer cs) cs
+    (record { tag = endTag; origin = noRun; destination = run (starts (tlv 0x49 peer ++ componentsOctets cs) + 2) (length peer) })
+
+abbrev pub readUni : List ℕ → Message
+readUni cs = withComponents (uniOctets cs) cs (record { tag = uniTag; origin = noRun; destination = noRun })
+
+abbrev pub readUserAbort : List ℕ → List ℕ → Message
+readUserAbort peer user =
+    soundOf (record { tag = abortTag; origin = noRun; destination = run (starts (tlv 0x49 peer ++ user) + 2) (length peer) })
+    (run (fromOf (length (userAbortOctets peer user)) (length user)) (length user)) 0 0 noProblem
+
+abbrev pub readCauseAbort : List ℕ → ℕ → Message
+readCauseAbort peer cause =
+    soundOf (record { tag = abortTag; origin = noRun; destination = run (starts (tlv 0x49 peer ++ (0x4A ∷ 1 ∷ cause ∷ [])) + 2) (length peer) }) noRun 0 0 cause
+
+-- s IS READ BACK as m, whose IDs, dialogue portion and components are the octets put in
 pub record Back (s : List ℕ) (m : Message) (own peer user cs : List ℕ) : Type 0 where
   pub is : messageOf s ≡ m
   pub origin : octetsAt s (m .origin) ≡ own

@@ -7,6 +7,7 @@ use lib.ListN.{length, take, length-append}
 use lib.Seq.{length-take-le}
 use Rattle.laws.specs.If.{ifLt, ifEq, by-lt, by-eq, lt, ge, eq, ne}
 use Rattle.laws.specs.Runs.{Wrote, wrote-more, wrote-as}
+use Rattle.paper.specs.Problems.{senderOf, senderOfProblem, byNobody}
 use Rattle.paper.specs.Components.{invokeTag, errorTag, rejectTag, noID}
 use Rattle.paper.specs.Writing.{lengthOctets, tlv, idThen, linkedThen, invokeOctets, resultOctets, errorOctets, problemOctets, rejectOctets}
 use Rattle.writing.specs.Heads.{elementHead, componentsHead, messageHead}
@@ -211,3 +212,15 @@ module _ (id : ℕ) where
         by-eq {A = ℕ} id noID 0 0 refl
         (λ h _. ap length (sym (reject-none h)) ∙ element-length rejectTag (5 ∷ 0 ∷ problemOctets p) ∙ short-size 5 (omega arith) ∙ null-size h)
         (λ h _. ap length (sym (reject-some h)) ∙ element-length rejectTag (idThen id (problemOctets p)) ∙ short-size 6 (omega arith) ∙ some-size h)
+
+-- one of the nineteen problems is below 1024, as write_reject asks
+pub problem-small : (p : ℕ) → (senderOfProblem p ≡ byNobody → ⊥) → p < 1024
+unfolding senderOf
+problem-small p by = go (senderOfProblem p) refl by
+  where
+    go : (r : ℕ) → r ≡ senderOfProblem p → (r ≡ byNobody → ⊥) → p < 1024
+    go r e n =
+        by-eq _ _ _ _ e (λ z _. omega arith)
+        (λ y e. by-eq _ _ _ _ e (λ z _. omega arith)
+        (λ y e. by-eq _ _ _ _ e (λ z _. omega arith)
+        (λ y e. by-eq _ _ _ _ e (λ z _. omega arith) (λ y e. absurd (n e)))))

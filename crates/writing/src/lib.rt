@@ -114,7 +114,8 @@ pub fn element_size(n: usize) -> usize
 // An invoke that is not linked, or an error: ID, operation or error, parameter.
 fn write_plain(out: &mut [u8], at: usize, tag: u8, id: u8, code: &[u8], par: &[u8]) -> usize
     requires { ⌜ Room (now out) at (elementSize (3 + length (now code) + length (now par))) ⌝ }
-    ensures { λ r. ⌜ Wrote (now (out .entry)) at (tlv tag (idThen id (now (code .entry) ++ now (par .entry)))) r (now (out .exit)) ⌝ }
+    ensures is { λ r. ⌜ Wrote (now (out .entry)) at (tlv tag (idThen id (now (code .entry) ++ now (par .entry)))) r (now (out .exit)) ⌝ }
+    ensures within { λ r. ⌜ r ≡ at + elementSize (3 + length (now (code .entry)) + length (now (par .entry))) ⌝ }
 {
     let a = write_head(out, at, tag, 3 + code.len() + par.len());
     let b = write_single(out, a, 2, id);
@@ -125,7 +126,8 @@ fn write_plain(out: &mut [u8], at: usize, tag: u8, id: u8, code: &[u8], par: &[u
 // An invoke that is linked.
 fn write_linked(out: &mut [u8], at: usize, id: u8, linked: u8, op: &[u8], par: &[u8]) -> usize
     requires { ⌜ Room (now out) at (elementSize (6 + length (now op) + length (now par))) ⌝ }
-    ensures { λ r. ⌜ Wrote (now (out .entry)) at (tlv invokeTag (idThen id (0x80 ∷ 1 ∷ linked ∷ (now (op .entry) ++ now (par .entry))))) r (now (out .exit)) ⌝ }
+    ensures is { λ r. ⌜ Wrote (now (out .entry)) at (tlv invokeTag (idThen id (0x80 ∷ 1 ∷ linked ∷ (now (op .entry) ++ now (par .entry))))) r (now (out .exit)) ⌝ }
+    ensures within { λ r. ⌜ r ≡ at + elementSize (6 + length (now (op .entry)) + length (now (par .entry))) ⌝ }
 {
     let a = write_head(out, at, 0xA1, 6 + op.len() + par.len());
     let b = write_single(out, a, 2, id);
@@ -148,7 +150,8 @@ pub fn invoke_size(linked: u32, op: &[u8], par: &[u8]) -> usize
 // An invoke; linked is 256 for none, and a parameter that is absent has no octets.
 pub fn write_invoke(out: &mut [u8], at: usize, id: u8, linked: u32, op: &[u8], par: &[u8]) -> usize
     requires { ⌜ (linked ≤ 256) × Room (now out) at (invokeSize linked (now op) (now par)) ⌝ }
-    ensures { λ r. ⌜ Wrote (now (out .entry)) at (invokeOctets id linked (now (op .entry)) (now (par .entry))) r (now (out .exit)) ⌝ }
+    ensures is { λ r. ⌜ Wrote (now (out .entry)) at (invokeOctets id linked (now (op .entry)) (now (par .entry))) r (now (out .exit)) ⌝ }
+    ensures within { λ r. ⌜ r ≡ at + invokeSize linked (now (op .entry)) (now (par .entry)) ⌝ }
 {
     if linked == 256 {
         return write_plain(out, at, 0xA1, id, op, par);
@@ -170,7 +173,8 @@ pub fn result_size(op: &[u8], par: &[u8]) -> usize
 // A result with operation and parameter, in a 30 of m octets.
 fn write_both(out: &mut [u8], at: usize, tag: u8, id: u8, op: &[u8], par: &[u8], m: usize) -> usize
     requires { ⌜ (m ≡ elementSize (length (now op) + length (now par))) × Room (now out) at (elementSize (3 + m)) ⌝ }
-    ensures { λ r. ⌜ Wrote (now (out .entry)) at (tlv tag (idThen id (tlv 0x30 (now (op .entry) ++ now (par .entry))))) r (now (out .exit)) ⌝ }
+    ensures is { λ r. ⌜ Wrote (now (out .entry)) at (tlv tag (idThen id (tlv 0x30 (now (op .entry) ++ now (par .entry))))) r (now (out .exit)) ⌝ }
+    ensures within { λ r. ⌜ r ≡ at + elementSize (3 + m) ⌝ }
 {
     let a = write_head(out, at, tag, 3 + m);
     let b = write_single(out, a, 2, id);
@@ -182,7 +186,8 @@ fn write_both(out: &mut [u8], at: usize, tag: u8, id: u8, op: &[u8], par: &[u8],
 // A result, last or not last by its tag; "a result lacks the whole 30" without operation and parameter.
 pub fn write_result(out: &mut [u8], at: usize, tag: u8, id: u8, op: &[u8], par: &[u8]) -> usize
     requires { ⌜ Room (now out) at (resultSize (now op) (now par)) ⌝ }
-    ensures { λ r. ⌜ Wrote (now (out .entry)) at (resultOctets tag id (now (op .entry)) (now (par .entry))) r (now (out .exit)) ⌝ }
+    ensures is { λ r. ⌜ Wrote (now (out .entry)) at (resultOctets tag id (now (op .entry)) (now (par .entry))) r (now (out .exit)) ⌝ }
+    ensures within { λ r. ⌜ r ≡ at + resultSize (now (op .entry)) (now (par .entry)) ⌝ }
 {
     if op.len() == 0 {
         let a = write_head(out, at, tag, 3);
@@ -203,7 +208,8 @@ pub fn error_size(err: &[u8], par: &[u8]) -> usize
 // An error.
 pub fn write_error(out: &mut [u8], at: usize, id: u8, err: &[u8], par: &[u8]) -> usize
     requires { ⌜ Room (now out) at (errorSize (now err) (now par)) ⌝ }
-    ensures { λ r. ⌜ Wrote (now (out .entry)) at (errorOctets id (now (err .entry)) (now (par .entry))) r (now (out .exit)) ⌝ }
+    ensures is { λ r. ⌜ Wrote (now (out .entry)) at (errorOctets id (now (err .entry)) (now (par .entry))) r (now (out .exit)) ⌝ }
+    ensures within { λ r. ⌜ r ≡ at + errorSize (now (err .entry)) (now (par .entry)) ⌝ }
 {
     write_plain(out, at, 0xA3, id, err, par)
 }
@@ -222,7 +228,8 @@ pub fn reject_size(id: u32) -> usize
 // A reject: its ID, 256 for none; its problem as in a row.
 pub fn write_reject(out: &mut [u8], at: usize, id: u32, problem: u32) -> usize
     requires { ⌜ (id ≤ 256) × (problem < 1024) × (at + rejectSize id ≤ length (now out)) ⌝ }
-    ensures { λ r. ⌜ Wrote (now (out .entry)) at (rejectOctets id problem) r (now (out .exit)) ⌝ }
+    ensures is { λ r. ⌜ Wrote (now (out .entry)) at (rejectOctets id problem) r (now (out .exit)) ⌝ }
+    ensures within { λ r. ⌜ r ≡ at + rejectSize id ⌝ }
 {
     let tag = (0x80 + problem / 256) as u8;
     let code = (problem % 256) as u8;
@@ -284,7 +291,8 @@ fn open_message(out: &mut [u8], at: usize, tag: u8, ids: usize, n: usize) -> usi
 // A Begin up to its n octets of components.
 pub fn begin_head(out: &mut [u8], at: usize, dialogue: u32, n: usize) -> usize
     requires { ⌜ Room (now out) at (messageSize 6 n) ⌝ }
-    ensures { λ r. ⌜ Wrote (now (out .entry)) at (beginHead (idOctets dialogue) n) r (now (out .exit)) ⌝ }
+    ensures is { λ r. ⌜ Wrote (now (out .entry)) at (beginHead (idOctets dialogue) n) r (now (out .exit)) ⌝ }
+    ensures within { λ r. ⌜ r + n ≡ at + messageSize 6 n ⌝ }
 {
     let own = id_octets(dialogue);
     let a = open_message(out, at, 0x62, 6, n);
@@ -302,7 +310,8 @@ pub fn continue_head(
     n: usize,
 ) -> usize
     requires { ⌜ (peerlen ≤ 4) × Room (now out) at (messageSize (8 + peerlen) n) ⌝ }
-    ensures { λ r. ⌜ Wrote (now (out .entry)) at (continueHead (idOctets dialogue) (take peerlen peer) n) r (now (out .exit)) ⌝ }
+    ensures is { λ r. ⌜ Wrote (now (out .entry)) at (continueHead (idOctets dialogue) (take peerlen peer) n) r (now (out .exit)) ⌝ }
+    ensures within { λ r. ⌜ r + n ≡ at + messageSize (8 + peerlen) n ⌝ }
 {
     let own = id_octets(dialogue);
     let a = open_message(out, at, 0x65, 8 + peerlen, n);
@@ -314,7 +323,8 @@ pub fn continue_head(
 // An End up to its n octets of components.
 pub fn end_head(out: &mut [u8], at: usize, peer: [u8; 4], peerlen: usize, n: usize) -> usize
     requires { ⌜ (peerlen ≤ 4) × Room (now out) at (messageSize (2 + peerlen) n) ⌝ }
-    ensures { λ r. ⌜ Wrote (now (out .entry)) at (endHead (take peerlen peer) n) r (now (out .exit)) ⌝ }
+    ensures is { λ r. ⌜ Wrote (now (out .entry)) at (endHead (take peerlen peer) n) r (now (out .exit)) ⌝ }
+    ensures within { λ r. ⌜ r + n ≡ at + messageSize (2 + peerlen) n ⌝ }
 {
     let a = open_message(out, at, 0x64, 2 + peerlen, n);
     let b = write_peer(out, a, peer, peerlen);
@@ -324,7 +334,8 @@ pub fn end_head(out: &mut [u8], at: usize, peer: [u8; 4], peerlen: usize, n: usi
 // A Unidirectional up to its n octets of components.
 pub fn uni_head(out: &mut [u8], at: usize, n: usize) -> usize
     requires { ⌜ Room (now out) at (messageSize 0 n) ⌝ }
-    ensures { λ r. ⌜ Wrote (now (out .entry)) at (uniHead n) r (now (out .exit)) ⌝ }
+    ensures is { λ r. ⌜ Wrote (now (out .entry)) at (uniHead n) r (now (out .exit)) ⌝ }
+    ensures within { λ r. ⌜ r + n ≡ at + messageSize 0 n ⌝ }
 {
     let a = open_message(out, at, 0x61, 0, n);
     write_components(out, a, n)
@@ -339,7 +350,8 @@ pub fn write_user_abort(
     portion: &[u8],
 ) -> usize
     requires { ⌜ (peerlen ≤ 4) × Room (now out) at (elementSize (2 + peerlen + length (now portion))) ⌝ }
-    ensures { λ r. ⌜ Wrote (now (out .entry)) at (userAbortOctets (take peerlen peer) (now (portion .entry))) r (now (out .exit)) ⌝ }
+    ensures is { λ r. ⌜ Wrote (now (out .entry)) at (userAbortOctets (take peerlen peer) (now (portion .entry))) r (now (out .exit)) ⌝ }
+    ensures within { λ r. ⌜ r ≡ at + elementSize (2 + peerlen + length (now (portion .entry))) ⌝ }
 {
     let a = write_head(out, at, 0x67, 2 + peerlen + portion.len());
     let b = write_peer(out, a, peer, peerlen);
@@ -349,7 +361,8 @@ pub fn write_user_abort(
 // The transaction sub-layer's Abort, with its cause; peer is the received originating ID.
 pub fn write_cause_abort(out: &mut [u8], at: usize, peer: &[u8], cause: u8) -> usize
     requires { ⌜ (length (now peer) ≤ 4) × (at + 7 + length (now peer) ≤ length (now out)) ⌝ }
-    ensures { λ r. ⌜ Wrote (now (out .entry)) at (causeAbortOctets (now (peer .entry)) cause) r (now (out .exit)) ⌝ }
+    ensures is { λ r. ⌜ Wrote (now (out .entry)) at (causeAbortOctets (now (peer .entry)) cause) r (now (out .exit)) ⌝ }
+    ensures within { λ r. ⌜ r ≡ at + 7 + length (now (peer .entry)) ⌝ }
 {
     let a = write_head(out, at, 0x67, 5 + peer.len());
     let b = write_id(out, a, 0x49, peer);

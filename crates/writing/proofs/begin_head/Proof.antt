@@ -1,4 +1,4 @@
-use mathlib.Core.Path.{ap, refl, sym}
+use mathlib.Core.Path.{ap, sym}
 use native.Mathlib.Omega.{arith}
 use Rattle.laws.specs.Runs.{wrote-as}
 use Rattle.paper.specs.Writing.{tlv}
@@ -6,40 +6,27 @@ use Rattle.writing.specs.Lengths.{head-wrote, id-length}
 use borrow.Author.Needs.{needs}
 use Rattle.writing.proofs.begin_head.Statement.{statement}
 use Rattle.writing.proofs.begin_head.Tie as tie
-use Rattle.writing.proofs.begin_head.Reads as reads
-use Rattle.writing.proofs.begin_head.Lts as lts
-use Rattle.writing.proofs.id_octets.Reads as id-octets-reads
-use Rattle.writing.proofs.open_message.Reads as open-message-reads
-use Rattle.writing.proofs.write_components.Reads as write-components-reads
-use Rattle.writing.proofs.write_id.Reads as write-id-reads
 
--- src/lib.rt:280:15
 id-octets-requires : tie.Need-id-octets-requires
 id-octets-requires c κs = search needs
 
--- src/lib.rt:281:9
 open-message-requires : tie.Need-open-message-requires
 open-message-requires c κs = search needs
 
--- src/lib.rt:282:36
 slice-aggregate-write-id : tie.Need-slice-aggregate-write-id
 slice-aggregate-write-id c = search needs
 
--- src/lib.rt:282:9
 write-id-requires : tie.Need-write-id-requires
 write-id-requires c κs = search needs
 
--- src/lib.rt:283:5
 write-components-requires : tie.Need-write-components-requires
 write-components-requires c κs = search needs
 
--- src/lib.rt:276:1
 same-length : tie.Need-same-length
 same-length c = search needs
 
--- src/lib.rt:276:1
 returns : tie.Need-returns
-returns c = head-wrote 0x62 6 (c .before .before .before .before .before .before .before .before .before .before .before .before .before .before .before .args .n) (c .before .before .before .before .before .before .before .before .before .before .before .open-message .ensures) (wrote-as (c .before .before .before .before .before .before .write-id .ensures .0) (ap (tlv 0x48) (c .before .before .before .before .before .before .before .before .before .before .before .before .before .id-octets .ensures))) (c .before .before .write-components .ensures) (sym (id-length _ _ (omega arith)))
+returns c = (head-wrote 0x62 6 (c .before .before .before .before .before .before .before .before .before .before .before .before .before .before .before .args .n) (c .before .before .before .before .before .before .before .before .before .before .before .open-message .ensures) (wrote-as (c .before .before .before .before .before .before .write-id .ensures .0) (ap (tlv 0x48) (c .before .before .before .before .before .before .before .before .before .before .before .before .before .id-octets .ensures))) (c .before .before .write-components .ensures) (sym (id-length _ _ (omega arith))), omega arith)
 
 pub begin-head-spec : {M : Type 1} → statement M
 begin-head-spec =

@@ -1,23 +1,17 @@
-use mathlib.Core.Path.{_∙_, ap}
+use mathlib.Core.Path.{ap}
 use native.Mathlib.Omega.{arith}
 use lib.ListN.{length}
 use Rattle.writing.specs.Lengths.{no-components, some-components}
 use borrow.Author.Needs.{needs}
 use Rattle.writing.proofs.components_size.Statement.{statement}
 use Rattle.writing.proofs.components_size.Tie as tie
-use Rattle.writing.proofs.components_size.Reads as reads
-use Rattle.writing.proofs.components_size.Lts as lts
-use Rattle.writing.proofs.element_size.Reads as element-size-reads
 
--- src/lib.rt:248:9
 returns : tie.Need-returns
 returns c = (omega (arith, ap length (no-components (c .before .args .n) (c .if1 .taken))), omega arith)
 
--- src/lib.rt:250:5
 element-size-requires : tie.Need-element-size-requires
 element-size-requires c κs = search needs
 
--- src/lib.rt:242:1
 returns-2 : tie.Need-returns-2
 returns-2 c = (omega (arith, ap length (some-components (c .before .before .args .n) (c .before .if1 .left))), omega arith)
 

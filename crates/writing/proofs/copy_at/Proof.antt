@@ -1,14 +1,11 @@
 use native.Mathlib.Omega.{arith}
-use mathlib.Core.Path.{_≡_, refl, sym, _∙_, ap}
-use mathlib.Core.List.{List}
-use Prim.Native.Nat.{ℕ, _≤_, _+_, _-_}
-use lib.ListN.{length, take, set, getD, length-set}
+use mathlib.Core.Path.{_≡_, refl, _∙_, ap}
+use Prim.Native.Nat.{_≤_, _-_}
+use lib.ListN.{length, take, length-set}
 use lib.Seq.{sets, take-all}
 use Rattle.laws.specs.Runs.{copied-more}
 use Rattle.writing.proofs.copy_at.Statement.{statement}
 use Rattle.writing.proofs.copy_at.Tie as tie
-use Rattle.writing.proofs.copy_at.Reads as reads
-use Rattle.writing.proofs.copy_at.Lts as lts
 
 abbrev Inv-loop : tie.InvT-loop
 Inv-loop out₀ at given i₀ out i = (i ≤ length given) × (length out ≡ length out₀) × (out ≡ sets out₀ at (take i given))
@@ -16,43 +13,33 @@ Inv-loop out₀ at given i₀ out i = (i ≤ length given) × (length out ≡ le
 abbrev μ-loop : tie.MeasureT-loop
 μ-loop out₀ at given i₀ out i = length given - i
 
--- src/lib.rt:35:5
 loop-holds : tie.Need-loop-holds Inv-loop μ-loop
 loop-holds c = (omega arith, refl, refl)
 
--- src/lib.rt:36:23
 shared-slice-read-out : tie.Need-shared-slice-read-out Inv-loop μ-loop
 shared-slice-read-out c = omega arith
 
--- src/lib.rt:36:13
 add-out : tie.Need-add-out Inv-loop μ-loop
 add-out c = omega arith
 
--- src/lib.rt:36:9
 slice-write-out : tie.Need-slice-write-out Inv-loop μ-loop
 slice-write-out c = omega arith
 
--- src/lib.rt:37:9
 add-i : tie.Need-add-i Inv-loop μ-loop
 add-i c = omega arith
 
--- src/lib.rt:35:5
 loop-less : tie.Need-loop-less Inv-loop μ-loop
 loop-less c = omega arith
 
--- src/lib.rt:35:5
 loop-again : tie.Need-loop-again Inv-loop μ-loop
 loop-again c = (omega arith, simp length-set (c .before .before .loop .inv .1), copied-more _ _ _ _ _ (c .before .before .loop .inv .2) (c .before .loop-test .taken))
 
--- src/lib.rt:39:5
 add-result : tie.Need-add-result Inv-loop μ-loop
 add-result c = omega arith
 
--- src/lib.rt:30:1
 same-length : tie.Need-same-length Inv-loop μ-loop
 same-length c = c .before .loop .inv .1
 
--- src/lib.rt:30:1
 returns : tie.Need-returns Inv-loop μ-loop
 returns c = record { past = omega arith; holds = c .before .loop .inv .2 ∙ ap (sets _ _) (take-all _ _ (c .loop-test .left)); long = c .before .loop .inv .1 }
 

@@ -4,18 +4,13 @@ use lib.ListN.{length}
 use Rattle.writing.specs.Lengths.{length-one, length-two, length-three}
 use Rattle.writing.proofs.length_size.Statement.{statement}
 use Rattle.writing.proofs.length_size.Tie as tie
-use Rattle.writing.proofs.length_size.Reads as reads
-use Rattle.writing.proofs.length_size.Lts as lts
 
--- src/lib.rt:39:9
 returns : tie.Need-returns
 returns c = (ap length (length-three _ (omega arith)), omega arith)
 
--- src/lib.rt:42:9
 returns-2 : tie.Need-returns-2
 returns-2 c = (ap length (length-two _ (omega arith) (omega arith)), omega arith)
 
--- src/lib.rt:34:1
 returns-3 : tie.Need-returns-3
 returns-3 c = (ap length (length-one _ (omega arith)), omega arith)
 

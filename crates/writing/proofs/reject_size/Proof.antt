@@ -2,14 +2,10 @@ use native.Mathlib.Omega.{arith}
 use Rattle.writing.specs.Lengths.{null-size, some-size}
 use Rattle.writing.proofs.reject_size.Statement.{statement}
 use Rattle.writing.proofs.reject_size.Tie as tie
-use Rattle.writing.proofs.reject_size.Reads as reads
-use Rattle.writing.proofs.reject_size.Lts as lts
 
--- src/lib.rt:206:9
 returns : tie.Need-returns
 returns c = (null-size _ (c .if1 .taken), omega arith)
 
--- src/lib.rt:201:1
 returns-2 : tie.Need-returns-2
 returns-2 c = (some-size _ (c .if1 .left), omega arith)
 

@@ -4,31 +4,22 @@ use Rattle.writing.specs.Lengths.{elementSize, none-size, both-size}
 use borrow.Author.Needs.{needs}
 use Rattle.writing.proofs.result_size.Statement.{statement}
 use Rattle.writing.proofs.result_size.Tie as tie
-use Rattle.writing.proofs.result_size.Reads as reads
-use Rattle.writing.proofs.result_size.Lts as lts
-use Rattle.writing.proofs.element_size.Reads as element-size-reads
 
--- src/lib.rt:154:9
 returns : tie.Need-returns
 returns c = none-size _ _ (c .if1 .taken)
 
--- src/lib.rt:156:35
 add-element-size : tie.Need-add-element-size
 add-element-size c = search needs
 
--- src/lib.rt:156:22
 element-size-requires : tie.Need-element-size-requires
 element-size-requires c κs = search needs
 
--- src/lib.rt:156:18
 add-element-size-2 : tie.Need-add-element-size-2
 add-element-size-2 c = search needs
 
--- src/lib.rt:156:5
 element-size-requires-2 : tie.Need-element-size-requires-2
 element-size-requires-2 c κs = search needs
 
--- src/lib.rt:149:1
 returns-2 : tie.Need-returns-2
 returns-2 c = c .element-size2 .ensures .0 ∙ ap (λ (k : ℕ). elementSize (3 + k)) (c .before .element-size .ensures .0) ∙ both-size _ _ (c .before .before .if1 .left)
 

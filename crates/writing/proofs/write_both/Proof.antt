@@ -1,55 +1,39 @@
 use mathlib.Core.Path.{refl}
 use Rattle.writing.specs.Lengths.{both-of}
 use native.Mathlib.Omega.{arith}
-use mathlib.Core.Path.{refl, sym, _∙_, ap}
+use mathlib.Core.Path.{refl}
 use mathlib.Core.List.{append-assoc}
-use lib.ListN.{length, length-append}
 use Rattle.laws.specs.Runs.{wrote-more, wrote-as}
-use Rattle.writing.specs.Lengths.{element-of, element-length}
 use borrow.Author.Needs.{needs}
 use Rattle.writing.proofs.write_both.Statement.{statement}
 use Rattle.writing.proofs.write_both.Tie as tie
-use Rattle.writing.proofs.write_both.Reads as reads
-use Rattle.writing.proofs.write_both.Lts as lts
-use Rattle.writing.proofs.copy_at.Reads as copy-at-reads
-use Rattle.writing.proofs.write_head.Reads as write-head-reads
-use Rattle.writing.proofs.write_single.Reads as write-single-reads
 
--- src/lib.rt:164:38
 add-write-head : tie.Need-add-write-head
 add-write-head c = search needs
 
--- src/lib.rt:164:9
 write-head-requires : tie.Need-write-head-requires
 write-head-requires c κs = search needs
 
--- src/lib.rt:165:9
 write-single-requires : tie.Need-write-single-requires
 write-single-requires c κs = search needs
 
--- src/lib.rt:166:38
 add-write-head-2 : tie.Need-add-write-head-2
 add-write-head-2 c = search needs
 
--- src/lib.rt:166:9
 write-head-requires-2 : tie.Need-write-head-requires-2
 write-head-requires-2 c κs = search needs
 
--- src/lib.rt:167:9
 copy-at-requires : tie.Need-copy-at-requires
 copy-at-requires c κs = search needs
 
--- src/lib.rt:168:5
 copy-at-requires-2 : tie.Need-copy-at-requires-2
 copy-at-requires-2 c κs = search needs
 
--- src/lib.rt:160:1
 same-length : tie.Need-same-length
 same-length c = search needs
 
--- src/lib.rt:160:1
 returns : tie.Need-returns
-returns c = wrote-as (wrote-more (wrote-more (wrote-more (wrote-more (c .before .before .before .before .before .before .before .before .before .before .before .before .before .before .before .before .before .before .write-head .ensures) refl (c .before .before .before .before .before .before .before .before .before .before .before .before .before .before .write-single .ensures)) refl (c .before .before .before .before .before .before .before .before .before .before .write-head2 .ensures)) refl (c .before .before .before .before .before .before .copy-at .ensures)) refl (c .before .before .copy-at2 .ensures)) (simp append-assoc (both-of _ _ _ _ (c .before .before .before .before .before .before .before .before .before .before .before .before .before .before .before .before .before .before .before .before .before .before .before .args .op .now) (c .before .before .before .before .before .before .before .before .before .before .before .before .before .before .before .before .before .before .before .before .before .before .before .args .par .now) (c .before .before .before .before .before .before .before .before .before .before .before .before .before .before .before .before .before .before .before .before .before .before .before .pre .0) refl))
+returns c = (wrote-as (wrote-more (wrote-more (wrote-more (wrote-more (c .before .before .before .before .before .before .before .before .before .before .before .before .before .before .before .before .before .before .write-head .ensures) refl (c .before .before .before .before .before .before .before .before .before .before .before .before .before .before .write-single .ensures)) refl (c .before .before .before .before .before .before .before .before .before .before .write-head2 .ensures)) refl (c .before .before .before .before .before .before .copy-at .ensures)) refl (c .before .before .copy-at2 .ensures)) (simp append-assoc (both-of _ _ _ _ (c .before .before .before .before .before .before .before .before .before .before .before .before .before .before .before .before .before .before .before .before .before .before .before .args .op .now) (c .before .before .before .before .before .before .before .before .before .before .before .before .before .before .before .before .before .before .before .before .before .before .before .args .par .now) (c .before .before .before .before .before .before .before .before .before .before .before .before .before .before .before .before .before .before .before .before .before .before .before .pre .0) refl)), omega arith)
 
 pub write-both-spec : {M : Type 1} → statement M
 write-both-spec =

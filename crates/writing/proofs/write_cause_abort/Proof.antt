@@ -9,36 +9,25 @@ use Rattle.writing.specs.Lengths.{element-of, id-length, short-size}
 use borrow.Author.Needs.{needs}
 use Rattle.writing.proofs.write_cause_abort.Statement.{statement}
 use Rattle.writing.proofs.write_cause_abort.Tie as tie
-use Rattle.writing.proofs.write_cause_abort.Reads as reads
-use Rattle.writing.proofs.write_cause_abort.Lts as lts
-use Rattle.writing.proofs.write_head.Reads as write-head-reads
-use Rattle.writing.proofs.write_id.Reads as write-id-reads
-use Rattle.writing.proofs.write_single.Reads as write-single-reads
 
--- src/lib.rt:332:39
 add-write-head : tie.Need-add-write-head
 add-write-head c = search needs
 
--- src/lib.rt:332:9
 write-head-requires : tie.Need-write-head-requires
 write-head-requires c κs = omega (arith, short-size (5 + length (c .before .before .before .args .peer .now)) (omega arith))
 
--- src/lib.rt:333:9
 write-id-requires : tie.Need-write-id-requires
 write-id-requires c κs = omega (arith, short-size (5 + length (c .before .before .before .before .before .before .before .args .peer .now)) (omega arith))
 
--- src/lib.rt:334:5
 write-single-requires : tie.Need-write-single-requires
 write-single-requires c κs = omega (arith, short-size (5 + length (c .before .before .before .before .before .before .before .before .before .before .before .args .peer .now)) (omega arith))
 
--- src/lib.rt:328:1
 same-length : tie.Need-same-length
 same-length c = search needs
 
--- src/lib.rt:328:1
 returns : tie.Need-returns
 unfolding causeAbortOctets
-returns c = wrote-as (wrote-more (wrote-more (c .before .before .before .before .before .before .before .before .before .before .write-head .ensures) refl (c .before .before .before .before .before .before .write-id .ensures .0)) refl (c .before .before .write-single .ensures)) (simp append-assoc (element-of _ _ _ (omega (arith, length-append (tlv 0x49 (c .before .before .before .before .before .before .before .before .before .before .before .before .before .before .args .peer .now)) (0x4A ∷ 1 ∷ c .before .before .before .before .before .before .before .before .before .before .before .before .before .before .args .cause ∷ []), id-length 0x49 (c .before .before .before .before .before .before .before .before .before .before .before .before .before .before .args .peer .now) (omega arith)))))
+returns c = (wrote-as (wrote-more (wrote-more (c .before .before .before .before .before .before .before .before .before .before .write-head .ensures) refl (c .before .before .before .before .before .before .write-id .ensures .0)) refl (c .before .before .write-single .ensures)) (simp append-assoc (element-of _ _ _ (omega (arith, length-append (tlv 0x49 (c .before .before .before .before .before .before .before .before .before .before .before .before .before .before .args .peer .now)) (0x4A ∷ 1 ∷ c .before .before .before .before .before .before .before .before .before .before .before .before .before .before .args .cause ∷ []), id-length 0x49 (c .before .before .before .before .before .before .before .before .before .before .before .before .before .before .args .peer .now) (omega arith))))), omega (arith, short-size (5 + length (c .before .before .before .before .before .before .before .before .before .before .before .before .before .before .args .peer .now)) (omega arith)))
 
 pub write-cause-abort-spec : {M : Type 1} → statement M
 write-cause-abort-spec =

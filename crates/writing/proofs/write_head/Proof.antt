@@ -3,24 +3,16 @@ use Rattle.laws.specs.Runs.{wrote-more}
 use borrow.Author.Needs.{needs}
 use Rattle.writing.proofs.write_head.Statement.{statement}
 use Rattle.writing.proofs.write_head.Tie as tie
-use Rattle.writing.proofs.write_head.Reads as reads
-use Rattle.writing.proofs.write_head.Lts as lts
-use Rattle.writing.proofs.put.Reads as put-reads
-use Rattle.writing.proofs.write_length.Reads as write-length-reads
 
--- src/lib.rt:72:9
 put-requires : tie.Need-put-requires
 put-requires c κs = search needs
 
--- src/lib.rt:73:5
 write-length-requires : tie.Need-write-length-requires
 write-length-requires c κs = search needs
 
--- src/lib.rt:68:1
 same-length : tie.Need-same-length
 same-length c = search needs
 
--- src/lib.rt:68:1
 returns : tie.Need-returns
 returns c = wrote-more (c .before .before .before .before .before .before .put .ensures) refl (c .before .before .write-length .ensures)
 

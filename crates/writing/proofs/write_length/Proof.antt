@@ -6,71 +6,52 @@ use Rattle.writing.specs.Lengths.{length-one, length-two, length-three}
 use borrow.Author.Needs.{needs}
 use Rattle.writing.proofs.write_length.Statement.{statement}
 use Rattle.writing.proofs.write_length.Tie as tie
-use Rattle.writing.proofs.write_length.Reads as reads
-use Rattle.writing.proofs.write_length.Lts as lts
-use Rattle.writing.proofs.put.Reads as put-reads
 
--- src/lib.rt:53:29
 cast-put : tie.Need-cast-put
 cast-put c = search needs
 
--- src/lib.rt:53:9
 put-requires : tie.Need-put-requires
 put-requires c κs = omega (arith, ap length (length-one (c .before .before .before .args .n) (c .before .if1 .taken)))
 
--- src/lib.rt:53:9
 same-length : tie.Need-same-length
 same-length c = search needs
 
--- src/lib.rt:53:9
 returns : tie.Need-returns
 returns c = wrote-as (c .before .before .put .ensures) (length-one _ (omega arith))
 
--- src/lib.rt:56:13
 put-requires-2 : tie.Need-put-requires-2
 put-requires-2 c κs = omega (arith, ap length (length-two (c .before .before .before .before .args .n) (c .before .before .if1 .left) (c .before .if2 .taken)))
 
--- src/lib.rt:57:28
 cast-put-2 : tie.Need-cast-put-2
 cast-put-2 c = search needs
 
--- src/lib.rt:57:9
 put-requires-3 : tie.Need-put-requires-3
 put-requires-3 c κs = omega (arith, ap length (length-two (c .before .before .before .before .before .before .before .before .args .n) (c .before .before .before .before .before .before .if1 .left) (c .before .before .before .before .before .if2 .taken)))
 
--- src/lib.rt:57:9
 same-length-2 : tie.Need-same-length-2
 same-length-2 c = search needs
 
--- src/lib.rt:57:9
 returns-2 : tie.Need-returns-2
 returns-2 c = wrote-as (wrote-more (c .before .before .before .before .before .before .put2 .ensures) refl (c .before .before .put3 .ensures)) (length-two _ (omega arith) (omega arith))
 
--- src/lib.rt:59:9
 put-requires-4 : tie.Need-put-requires-4
 put-requires-4 c κs = omega (arith, ap length (length-three (c .before .before .before .before .args .n) (c .before .if2 .left)))
 
--- src/lib.rt:60:25
 cast-put-3 : tie.Need-cast-put-3
 cast-put-3 c = search needs
 
--- src/lib.rt:60:9
 put-requires-5 : tie.Need-put-requires-5
 put-requires-5 c κs = omega (arith, ap length (length-three (c .before .before .before .before .before .before .before .before .args .n) (c .before .before .before .before .before .if2 .left)))
 
--- src/lib.rt:61:17
 cast-put-4 : tie.Need-cast-put-4
 cast-put-4 c = search needs
 
--- src/lib.rt:61:5
 put-requires-6 : tie.Need-put-requires-6
 put-requires-6 c κs = omega (arith, ap length (length-three (c .before .before .before .before .before .before .before .before .before .before .before .before .args .n) (c .before .before .before .before .before .before .before .before .before .if2 .left)))
 
--- src/lib.rt:48:1
 same-length-3 : tie.Need-same-length-3
 same-length-3 c = search needs
 
--- src/lib.rt:48:1
 returns-3 : tie.Need-returns-3
 returns-3 c = wrote-as (wrote-more (wrote-more (c .before .before .before .before .before .before .before .before .before .before .put4 .ensures) refl (c .before .before .before .before .before .before .put5 .ensures)) refl (c .before .before .put6 .ensures)) (length-three _ (omega arith))
 

@@ -7,43 +7,30 @@ use Rattle.writing.specs.Lengths.{element-of}
 use borrow.Author.Needs.{needs}
 use Rattle.writing.proofs.write_plain.Statement.{statement}
 use Rattle.writing.proofs.write_plain.Tie as tie
-use Rattle.writing.proofs.write_plain.Reads as reads
-use Rattle.writing.proofs.write_plain.Lts as lts
-use Rattle.writing.proofs.copy_at.Reads as copy-at-reads
-use Rattle.writing.proofs.write_head.Reads as write-head-reads
-use Rattle.writing.proofs.write_single.Reads as write-single-reads
 
--- src/lib.rt:108:38
 add-write-head : tie.Need-add-write-head
 add-write-head c = search needs
 
--- src/lib.rt:108:38
 add-write-head-2 : tie.Need-add-write-head-2
 add-write-head-2 c = search needs
 
--- src/lib.rt:108:9
 write-head-requires : tie.Need-write-head-requires
 write-head-requires c κs = search needs
 
--- src/lib.rt:109:9
 write-single-requires : tie.Need-write-single-requires
 write-single-requires c κs = search needs
 
--- src/lib.rt:110:9
 copy-at-requires : tie.Need-copy-at-requires
 copy-at-requires c κs = search needs
 
--- src/lib.rt:111:5
 copy-at-requires-2 : tie.Need-copy-at-requires-2
 copy-at-requires-2 c κs = search needs
 
--- src/lib.rt:104:1
 same-length : tie.Need-same-length
 same-length c = search needs
 
--- src/lib.rt:104:1
 returns : tie.Need-returns
-returns c = wrote-as (wrote-more (wrote-more (wrote-more (c .before .before .before .before .before .before .before .before .before .before .before .before .before .before .write-head .ensures) refl (c .before .before .before .before .before .before .before .before .before .before .write-single .ensures)) refl (c .before .before .before .before .before .before .copy-at .ensures)) refl (c .before .before .copy-at2 .ensures)) (simp append-assoc (element-of _ _ _ (simp length-append (omega arith))))
+returns c = (wrote-as (wrote-more (wrote-more (wrote-more (c .before .before .before .before .before .before .before .before .before .before .before .before .before .before .write-head .ensures) refl (c .before .before .before .before .before .before .before .before .before .before .write-single .ensures)) refl (c .before .before .before .before .before .before .copy-at .ensures)) refl (c .before .before .copy-at2 .ensures)) (simp append-assoc (element-of _ _ _ (simp length-append (omega arith)))), omega arith)
 
 pub write-plain-spec : {M : Type 1} → statement M
 write-plain-spec =

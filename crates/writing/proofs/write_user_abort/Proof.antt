@@ -8,40 +8,28 @@ use Rattle.writing.specs.Lengths.{element-of, peer-length}
 use borrow.Author.Needs.{needs}
 use Rattle.writing.proofs.write_user_abort.Statement.{statement}
 use Rattle.writing.proofs.write_user_abort.Tie as tie
-use Rattle.writing.proofs.write_user_abort.Reads as reads
-use Rattle.writing.proofs.write_user_abort.Lts as lts
-use Rattle.writing.proofs.copy_at.Reads as copy-at-reads
-use Rattle.writing.proofs.write_head.Reads as write-head-reads
-use Rattle.writing.proofs.write_peer.Reads as write-peer-reads
 
--- src/lib.rt:331:39
 add-write-head : tie.Need-add-write-head
 add-write-head c = search needs
 
--- src/lib.rt:331:39
 add-write-head-2 : tie.Need-add-write-head-2
 add-write-head-2 c = search needs
 
--- src/lib.rt:331:9
 write-head-requires : tie.Need-write-head-requires
 write-head-requires c κs = search needs
 
--- src/lib.rt:332:9
 write-peer-requires : tie.Need-write-peer-requires
 write-peer-requires c κs = search needs
 
--- src/lib.rt:333:5
 copy-at-requires : tie.Need-copy-at-requires
 copy-at-requires c κs = search needs
 
--- src/lib.rt:327:1
 same-length : tie.Need-same-length
 same-length c = search needs
 
--- src/lib.rt:327:1
 returns : tie.Need-returns
 unfolding userAbortOctets
-returns c = wrote-as (wrote-more (wrote-more (c .before .before .before .before .before .before .before .before .before .before .write-head .ensures) refl (c .before .before .before .before .before .before .write-peer .ensures .0)) refl (c .before .before .copy-at .ensures)) (simp append-assoc (element-of _ _ _ (omega (arith, length-append (tlv 0x49 (take (c .before .before .before .before .before .before .before .before .before .before .before .before .before .before .args .peerlen) (c .before .before .before .before .before .before .before .before .before .before .before .before .before .before .args .peer))) (c .before .before .before .before .before .before .before .before .before .before .before .before .before .before .args .portion .now), peer-length (c .before .before .before .before .before .before .before .before .before .before .before .before .before .before .args .peerlen) (c .before .before .before .before .before .before .before .before .before .before .before .before .before .before .args .peer) (omega arith) (omega arith)))))
+returns c = (wrote-as (wrote-more (wrote-more (c .before .before .before .before .before .before .before .before .before .before .write-head .ensures) refl (c .before .before .before .before .before .before .write-peer .ensures .0)) refl (c .before .before .copy-at .ensures)) (simp append-assoc (element-of _ _ _ (omega (arith, length-append (tlv 0x49 (take (c .before .before .before .before .before .before .before .before .before .before .before .before .before .before .args .peerlen) (c .before .before .before .before .before .before .before .before .before .before .before .before .before .before .args .peer))) (c .before .before .before .before .before .before .before .before .before .before .before .before .before .before .args .portion .now), peer-length (c .before .before .before .before .before .before .before .before .before .before .before .before .before .before .args .peerlen) (c .before .before .before .before .before .before .before .before .before .before .before .before .before .before .args .peer) (omega arith) (omega arith))))), omega arith)
 
 pub write-user-abort-spec : {M : Type 1} → statement M
 write-user-abort-spec =
