@@ -1,3 +1,4 @@
 pub mod Counted
 pub mod Changed
 pub mod Steps
+pub mod Rows
