@@ -2,3 +2,5 @@ pub mod Counted
 pub mod Changed
 pub mod Steps
 pub mod Rows
+pub mod Fits
+pub mod History

@@ -1,0 +1,274 @@
+-- HISTORIES OF CALLS, at octets: what a host that hands the table on unaltered sees. Assumes nothing.
+use mathlib.Core.Path.{_≡_, refl, sym, ap, subst, _∙_}
+use mathlib.Core.Bool.{Bool, true, false}
+use mathlib.Core.List.{List, [], _∷_}
+use mathlib.Core.Logic.{_⊎_, inl, inr}
+use Prim.Native.Nat.{ℕ, zero, suc, _+_, _*_, _≤_, _<_}
+use native.Mathlib.Omega.{arith}
+use lib.ListN.{length, getD}
+use lib.Seq.{sets}
+use Rattle.laws.specs.If.{ifLt, ifEq, ifB, lt, ge, eq, ne, yes, by-eq, by-lt, was-eq, was-ge}
+use Rattle.laws.specs.Sums.{sumBy}
+use Rattle.paper.specs.declared.Row.{Row}
+use Rattle.paper.specs.Sizes.{services, placeOf}
+use Rattle.paper.specs.Rows.{rowsOctets, rowBegin, rowEnd, rowUserAbort, rowAbort}
+use Rattle.paper.specs.Dialogues.{Place, Request, Done, refusal, does, request, unlessRefused}
+use Rattle.paper.specs.Dialogues.Request.{Invoke, Result, Error, UserReject, Cancel, Begin, Continue, End, Prearranged, Abort, Unidirectional, Timeout, RejectTimeout, NoReaction}
+use Rattle.paper.specs.Calls.{Table, Call, Out, placeAt, held, stored, requested, opened, step}
+use Rattle.paper.specs.Calls.Call.{Open, OnDialogue, Receive}
+use Rattle.paper.specs.Layout.{encode, view}
+use Rattle.paper.specs.Rules.{rules}
+use Rattle.paper.specs.Outcome.{Lent, Spaces, Outcome, spacesOf, spacesFor, standing, given, shown, refusedBy, outcome}
+use Rattle.facts.specs.Fine.{Fine, Octets}
+use Rattle.facts.specs.Whole.{view-encode}
+use Rattle.facts.specs.Ready.{encode-stands}
+use Rattle.demands.specs.Counted.{serviceOf, beginRow, endRow, endsIt, begunIn, endedIn}
+use Rattle.demands.specs.Changed.{Moved, holds-lt, holds-b}
+use Rattle.demands.specs.Steps.{step-counts}
+use Rattle.demands.specs.Rows.{sumKinds, kinds-back, noRow}
+use Rattle.demands.specs.Fits.{Fit, MessageOctets, step-fit}
+
+-- A CALL AS A HOST MAKES IT: beside the table it lends a row space and a message space, of any sizes
+pub record Made : Type 0 where
+  pub call : Call
+  pub rows : List ℕ
+  pub space : List ℕ
+
+-- what it gives, on a table's octets
+abbrev pub gave : List ℕ → Made → Outcome
+gave t m = outcome (record { table = t; rows = m .rows; space = m .space }) (m .call)
+
+-- the table handed on unaltered from call to call
+abbrev pub after : List ℕ → List Made → List ℕ
+after t [] = t
+after t (m ∷ ms) = after (gave t m .lent .table) ms
+
+-- COUNTED FROM THE CALLS ALONE: the answer, and the kinds of the rows as they stand in the row space
+abbrev pub beginKind : ℕ → ℕ
+beginKind k = ifEq k rowBegin 1 0
+
+abbrev pub endKind : ℕ → ℕ
+endKind k = ifEq k rowEnd 1 (ifEq k rowUserAbort 1 (ifEq k rowAbort 1 0))
+
+-- "begun is an open answered 0 or a BEGIN row"
+unfoldable pub begunBy : Call → Outcome → ℕ
+begunBy (Open service) o = ifEq (o .answer) 0 1 0
+begunBy (OnDialogue service dialogue r) o = 0
+begunBy (Receive service s) o = sumKinds beginKind (o .rows) 0 (o .lent .rows)
+
+-- "ended is an end, user abort or Unidirectional request answered 0, or a row 4, 5 or 6"
+unfoldable pub endedBy : Call → Outcome → ℕ
+endedBy (Open service) o = 0
+endedBy (OnDialogue service dialogue r) o = ifEq (o .answer) 0 (endsIt r) 0 + sumKinds endKind (o .rows) 0 (o .lent .rows)
+endedBy (Receive service s) o = sumKinds endKind (o .rows) 0 (o .lent .rows)
+
+-- of one service, over a history
+abbrev pub begunOf : ℕ → List ℕ → List Made → ℕ
+begunOf s t [] = 0
+begunOf s t (m ∷ ms) = ifEq (serviceOf (m .call)) s (begunBy (m .call) (gave t m)) 0 + begunOf s (gave t m .lent .table) ms
+
+abbrev pub endedOf : ℕ → List ℕ → List Made → ℕ
+endedOf s t [] = 0
+endedOf s t (m ∷ ms) = ifEq (serviceOf (m .call)) s (endedBy (m .call) (gave t m)) 0 + endedOf s (gave t m .lent .table) ms
+
+-- ONE CALL: the table afterwards is a table that keeps the rules, and the count moves by what the call begins and ends
+pub record Next (T : Table) (m : Made) : Type 0 where
+  pub to : Table
+  pub fine : Fine to
+  pub table : gave (encode T) m .lent .table ≡ encode to
+  pub counts : (s : ℕ) → ifEq (serviceOf (m .call)) s (begunBy (m .call) (gave (encode T) m)) 0 + held (T .places) s
+      ≡ ifEq (serviceOf (m .call)) s (endedBy (m .call) (gave (encode T) m)) 0 + held (to .places) s
+
+-- the same count, told for each service
+for-each : (k b e : ℕ) (T U : Table) → Moved k b e (T .places) (U .places) → (s : ℕ) → ifEq k s b 0 + held (T .places) s ≡ ifEq k s e 0 + held (U .places) s
+for-each k b e T U m s =
+    by-eq {r = ifEq k s b 0} k s b 0 refl
+    (λ q w. subst (λ (x : ℕ). ifEq k x b 0 + held (T .places) x ≡ ifEq k x e 0 + held (U .places) x) q
+    (omega (arith, m .mine, eq {r = b} k k b 0 refl refl, eq {r = e} k k e 0 refl refl)))
+    (λ q w. omega (arith, m .others s (λ z. q (sym z)), ne {r = 0} k s b 0 q refl, ne {r = 0} k s e 0 q refl))
+
+-- a refusal begins and ends nothing
+refused-begins : (c : Call) (n : ℕ) (l : Lent) → begunBy c (refusedBy (suc n) l) ≡ 0
+unfolding begunBy sumKinds
+refused-begins (Open service) n l = sym (ne (suc n) 0 1 0 (λ h. omega arith) refl)
+refused-begins (OnDialogue service dialogue r) n l = refl
+refused-begins (Receive service s) n l = refl
+
+refused-ends : (c : Call) (n : ℕ) (l : Lent) → endedBy c (refusedBy (suc n) l) ≡ 0
+unfolding endedBy sumKinds
+refused-ends (Open service) n l = refl
+refused-ends (OnDialogue service dialogue r) n l = omega (arith, ne {r = 0} (suc n) 0 (endsIt r) 0 (λ h. omega arith) refl)
+refused-ends (Receive service s) n l = refl
+
+-- a call that is done begins and ends what its rows say, where they fit
+module _ (l : Lent) (o : Out) (done : o .answer ≡ 0) (fit : Fit (o .rows)) (room : 32 * length (o .rows) ≤ length (l .rows)) where
+  kinds : (f : ℕ → ℕ) → sumKinds f (length (o .rows)) 0 (sets (l .rows) 0 (rowsOctets (o .rows))) ≡ sumBy (λ (r : Row). f (r .kind)) (o .rows)
+  kinds f = kinds-back f (o .rows) 0 (l .rows) (fit .small) (omega (arith, room))
+
+  done-begins : (c : Call) → begunBy c (given l o) ≡ begunIn c o
+  unfolding begunBy begunIn
+  done-begins (Open service) = sym (eq {r = 1} 0 0 1 0 refl refl) ∙ eq {r = 1} (o .answer) 0 1 0 done refl
+  done-begins (OnDialogue service dialogue r) = refl
+  done-begins (Receive service s) = kinds beginKind
+
+  done-ends : (c : Call) → endedBy c (given l o) ≡ endedIn c o
+  unfolding endedBy endedIn
+  done-ends (Open service) = refl
+  done-ends (OnDialogue service dialogue r) =
+      omega (arith, kinds endKind, eq {r = endsIt r} 0 0 (endsIt r) 0 refl refl, eq {r = endsIt r} (o .answer) 0 (endsIt r) 0 done refl)
+  done-ends (Receive service s) = kinds endKind
+
+-- A CALL WITHOUT A ROW SPACE has no rows
+quiet : (me : ℕ) (x : Place) (r : Request) → spacesOf r .rows ≡ 0 → does me x r .rows ≡ []
+unfolding does
+quiet me x (Invoke id linked class op par) e = refl
+quiet me x (Result tag id op par) e = refl
+quiet me x (Error id err par) e = refl
+quiet me x (UserReject id p) e = refl
+quiet me x (Cancel id) e = refl
+quiet me x Begin e = refl
+quiet me x Continue e = refl
+quiet me x End e = refl
+quiet me x Prearranged e = refl
+quiet me x (Abort portion) e = refl
+quiet me x Unidirectional e = refl
+quiet me x (Timeout id) e = absurd (omega arith)
+quiet me x (RejectTimeout id) e = refl
+quiet me x NoReaction e = absurd (omega arith)
+
+quiet-request : (me : ℕ) (x : Place) (r : Request) → spacesOf r .rows ≡ 0 → request me x r .rows ≡ []
+unfolding request
+quiet-request me x r e = go (refusal x r)
+  where
+    go : (n : ℕ) → unlessRefused n x (does me x r) .rows ≡ []
+    go zero = quiet me x r e
+    go (suc n) = refl
+
+abbrev Quiet : Out → Type 0
+Quiet o = o .rows ≡ []
+
+quiet-step : (T : Table) (service dialogue : ℕ) (r : Request) → spacesOf r .rows ≡ 0 → Quiet (step T (OnDialogue service dialogue r))
+unfolding step requested stored
+quiet-step T service dialogue r e =
+    holds-lt Quiet service services _ _ (holds-b Quiet _ _ _ (quiet-request dialogue (placeAt T (placeOf dialogue)) r e) refl) refl
+
+quiet-open : (T : Table) (service : ℕ) → Quiet (step T (Open service))
+unfolding step opened
+quiet-open T service = holds-lt Quiet service services _ _ (holds-b Quiet _ _ _ refl refl) refl
+
+-- the rows of a call that isn't refused for a size fit into the row space
+stands-rows : (l : Lent) (n : Spaces) → standing l n ≡ 0 → n .rows ≤ length (l .rows)
+unfolding standing
+stands-rows l n e =
+    let a = was-eq _ _ _ _ (sym e) (λ h. omega arith) in
+    was-ge _ _ _ _ (a .1) (λ h. omega arith) .0
+
+few-rows : (rs : List Row) (l : Lent) → rs ≡ [] → 32 * length rs ≤ length (l .rows)
+few-rows rs l e = omega (arith, ap (λ (x : List Row). length x) e)
+
+rows-fit : (T : Table) (l : Lent) (c : Call) → MessageOctets c → standing l (spacesFor c) ≡ 0 → 32 * length (step T c .rows) ≤ length (l .rows)
+rows-fit T l (Open service) o e = few-rows _ l (quiet-open T service)
+rows-fit T l (Receive service s) o e = omega (arith, step-fit T (Receive service s) o .few, stands-rows l (spacesFor (Receive service s)) e)
+rows-fit T l (OnDialogue service dialogue r) o e =
+    by-space (spacesOf r .rows) refl (omega (arith, step-fit T (OnDialogue service dialogue r) tt .few)) (stands-rows l (spacesOf r) e) (either r)
+  where
+    either : (r : Request) → (spacesOf r .rows ≡ 0) ⊎ (spacesOf r .rows ≡ 4096)
+    either (Invoke id linked class op par) = inl refl
+    either (Result tag id op par) = inl refl
+    either (Error id err par) = inl refl
+    either (UserReject id p) = inl refl
+    either (Cancel id) = inl refl
+    either Begin = inl refl
+    either Continue = inl refl
+    either End = inl refl
+    either Prearranged = inl refl
+    either (Abort portion) = inl refl
+    either Unidirectional = inl refl
+    either (Timeout id) = inr refl
+    either (RejectTimeout id) = inl refl
+    either NoReaction = inr refl
+
+    by-space : (n : ℕ) → n ≡ spacesOf r .rows → 32 * length (step T (OnDialogue service dialogue r) .rows) ≤ 4096 → spacesOf r .rows ≤ length (l .rows)
+        → (spacesOf r .rows ≡ 0) ⊎ (spacesOf r .rows ≡ 4096) → 32 * length (step T (OnDialogue service dialogue r) .rows) ≤ length (l .rows)
+    by-space n q few h (inl z) = few-rows _ l (quiet-step T service dialogue r z)
+    by-space n q few h (inr z) = omega arith
+
+-- the octets that a call is given are octets
+abbrev pub RequestOctets : Request → Type 0
+RequestOctets (Invoke id linked class op par) = (id < 256) × Octets op × Octets par
+RequestOctets (Result tag id op par) = (id < 256) × Octets op × Octets par
+RequestOctets (Error id err par) = (id < 256) × Octets err × Octets par
+RequestOctets (UserReject id p) = id < 256
+RequestOctets (Cancel id) = Unit
+RequestOctets Begin = Unit
+RequestOctets Continue = Unit
+RequestOctets End = Unit
+RequestOctets Prearranged = Unit
+RequestOctets (Abort portion) = Octets portion
+RequestOctets Unidirectional = Unit
+RequestOctets (Timeout id) = Unit
+RequestOctets (RejectTimeout id) = Unit
+RequestOctets NoReaction = Unit
+
+abbrev pub CallOctets : Call → Type 0
+CallOctets (Open service) = Unit
+CallOctets (OnDialogue service dialogue r) = RequestOctets r
+CallOctets (Receive service s) = Octets s
+
+message-octets : (c : Call) → CallOctets c → MessageOctets c
+message-octets (Open service) o = tt
+message-octets (OnDialogue service dialogue r) o = tt
+message-octets (Receive service s) o = o
+
+-- THE STEP KEEPS THE RULES, from here on taken as `kept`
+module _ (kept : (T : Table) → Fine T → (c : Call) → CallOctets c → Fine (step T c .table)) where
+  pub next : (T : Table) → Fine T → (m : Made) → CallOctets (m .call) → Next T m
+  unfolding outcome
+  next T f m o = stand (standing l (spacesFor (m .call))) refl
+    where
+      l : Lent
+      l = record { table = encode T; rows = m .rows; space = m .space }
+
+      same : step (view (encode T)) (m .call) ≡ step T (m .call)
+      same = ap (λ (U : Table). step U (m .call)) (view-encode T f)
+
+      -- an outcome, and what follows from it
+      by : (g : Outcome) → gave (encode T) m ≡ g → (U : Table) → Fine U → g .lent .table ≡ encode U
+          → ((s : ℕ) → ifEq (serviceOf (m .call)) s (begunBy (m .call) g) 0 + held (T .places) s ≡ ifEq (serviceOf (m .call)) s (endedBy (m .call) g) 0 + held (U .places) s)
+          → Next T m
+      by g e U u q w = record {
+        to = U;
+        fine = u;
+        table = ap (λ (x : Outcome). x .lent .table) e ∙ q;
+        counts = subst (λ (x : Outcome). (s : ℕ) → ifEq (serviceOf (m .call)) s (begunBy (m .call) x) 0 + held (T .places) s ≡ ifEq (serviceOf (m .call)) s (endedBy (m .call) x) 0 + held (U .places) s) (sym e) w;
+      }
+
+      nothing : (n : ℕ) (s : ℕ) → ifEq (serviceOf (m .call)) s (begunBy (m .call) (refusedBy (suc n) l)) 0 + held (T .places) s
+          ≡ ifEq (serviceOf (m .call)) s (endedBy (m .call) (refusedBy (suc n) l)) 0 + held (T .places) s
+      nothing n s = ap (λ (k : ℕ). ifEq (serviceOf (m .call)) s k 0 + held (T .places) s) (refused-begins (m .call) n l ∙ sym (refused-ends (m .call) n l))
+
+      done : (g : Out) → g ≡ step T (m .call) → g .answer ≡ 0 → standing l (spacesFor (m .call)) ≡ 0 → gave (encode T) m ≡ given l g → Next T m
+      done g e z st w =
+          by (given l g) w (g .table) (subst (λ (x : Out). Fine (x .table)) (sym e) (kept T f (m .call) o)) refl
+          (for-each (serviceOf (m .call)) (begunBy (m .call) (given l g)) (endedBy (m .call) (given l g)) T (g .table) moved)
+        where
+          fit : Fit (g .rows)
+          fit = subst (λ (x : Out). Fit (x .rows)) (sym e) (step-fit T (m .call) (message-octets (m .call) o))
+
+          room : 32 * length (g .rows) ≤ length (l .rows)
+          room = subst (λ (x : Out). 32 * length (x .rows) ≤ length (l .rows)) (sym e) (rows-fit T l (m .call) (message-octets (m .call) o) st)
+
+          moved : Moved (serviceOf (m .call)) (begunBy (m .call) (given l g)) (endedBy (m .call) (given l g)) (T .places) (g .table .places)
+          moved =
+              subst (λ (b : ℕ). Moved (serviceOf (m .call)) b (endedBy (m .call) (given l g)) (T .places) (g .table .places)) (sym (done-begins l g z fit room (m .call)))
+              (subst (λ (b : ℕ). Moved (serviceOf (m .call)) (begunIn (m .call) g) b (T .places) (g .table .places)) (sym (done-ends l g z fit room (m .call)))
+              (subst (λ (x : Out). Moved (serviceOf (m .call)) (begunIn (m .call) x) (endedIn (m .call) x) (T .places) (x .table .places)) (sym e) (step-counts T f (m .call))))
+
+      answered : (n : ℕ) → step T (m .call) .answer ≡ n → standing l (spacesFor (m .call)) ≡ 0 → gave (encode T) m ≡ shown 0 l (step T (m .call)) → Next T m
+      answered zero z st w = done (step T (m .call)) refl z st (w ∙ sym (eq _ _ _ _ z refl))
+      answered (suc n) z st w =
+          by (refusedBy (suc n) l) (w ∙ sym (ne _ _ _ _ (λ h. omega (arith, z, h)) (ap (λ (k : ℕ). refusedBy k l) (sym z)))) T f refl (nothing n)
+
+      stand : (n : ℕ) → standing l (spacesFor (m .call)) ≡ n → Next T m
+      stand zero e = answered (step T (m .call) .answer) refl e (ap (λ (k : ℕ). shown k l (step (view (encode T)) (m .call))) e ∙ ap (shown 0 l) same)
+      stand (suc n) e = by (refusedBy (suc n) l) (ap (λ (k : ℕ). shown k l (step (view (encode T)) (m .call))) e) T f refl (nothing n)
