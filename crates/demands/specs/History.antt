@@ -25,6 +25,7 @@ use Rattle.facts.specs.Ready.{encode-stands}
 use Rattle.demands.specs.Counted.{serviceOf, beginRow, endRow, endsIt, begunIn, endedIn}
 use Rattle.demands.specs.Changed.{Moved, holds-lt, holds-b}
 use Rattle.demands.specs.Steps.{step-counts}
+use Rattle.demands.specs.Shares.{SameShares, step-shares}
 use Rattle.demands.specs.Rows.{sumKinds, kinds-back, noRow}
 use Rattle.demands.specs.Fits.{Fit, MessageOctets, step-fit}
 
@@ -76,6 +77,7 @@ pub record Next (T : Table) (m : Made) : Type 0 where
   pub to : Table
   pub fine : Fine to
   pub table : gave (encode T) m .lent .table ≡ encode to
+  pub shares : (to .guarantees ≡ T .guarantees) × (to .limits ≡ T .limits)
   pub counts : (s : ℕ) → ifEq (serviceOf (m .call)) s (begunBy (m .call) (gave (encode T) m)) 0 + held (T .places) s
       ≡ ifEq (serviceOf (m .call)) s (endedBy (m .call) (gave (encode T) m)) 0 + held (to .places) s
 
@@ -220,6 +222,18 @@ message-octets (Open service) o = tt
 message-octets (OnDialogue service dialogue r) o = tt
 message-octets (Receive service s) o = o
 
+abbrev pub AllOctets : List Made → Type 0
+AllOctets [] = Unit
+AllOctets (m ∷ ms) = CallOctets (m .call) × AllOctets ms
+
+-- WHERE A HISTORY LEADS: a table that keeps the rules, with the same shares; begun less ended is what it holds
+pub record Reached (T : Table) (ms : List Made) : Type 0 where
+  pub to : Table
+  pub fine : Fine to
+  pub table : after (encode T) ms ≡ encode to
+  pub shares : (to .guarantees ≡ T .guarantees) × (to .limits ≡ T .limits)
+  pub counts : (s : ℕ) → begunOf s (encode T) ms + held (T .places) s ≡ endedOf s (encode T) ms + held (to .places) s
+
 -- THE STEP KEEPS THE RULES, from here on taken as `kept`
 module _ (kept : (T : Table) → Fine T → (c : Call) → CallOctets c → Fine (step T c .table)) where
   pub next : (T : Table) → Fine T → (m : Made) → CallOctets (m .call) → Next T m
@@ -233,13 +247,14 @@ module _ (kept : (T : Table) → Fine T → (c : Call) → CallOctets c → Fine
       same = ap (λ (U : Table). step U (m .call)) (view-encode T f)
 
       -- an outcome, and what follows from it
-      by : (g : Outcome) → gave (encode T) m ≡ g → (U : Table) → Fine U → g .lent .table ≡ encode U
+      by : (g : Outcome) → gave (encode T) m ≡ g → (U : Table) → Fine U → g .lent .table ≡ encode U → (U .guarantees ≡ T .guarantees) × (U .limits ≡ T .limits)
           → ((s : ℕ) → ifEq (serviceOf (m .call)) s (begunBy (m .call) g) 0 + held (T .places) s ≡ ifEq (serviceOf (m .call)) s (endedBy (m .call) g) 0 + held (U .places) s)
           → Next T m
-      by g e U u q w = record {
+      by g e U u q v w = record {
         to = U;
         fine = u;
         table = ap (λ (x : Outcome). x .lent .table) e ∙ q;
+        shares = v;
         counts = subst (λ (x : Outcome). (s : ℕ) → ifEq (serviceOf (m .call)) s (begunBy (m .call) x) 0 + held (T .places) s ≡ ifEq (serviceOf (m .call)) s (endedBy (m .call) x) 0 + held (U .places) s) (sym e) w;
       }
 
@@ -249,7 +264,7 @@ module _ (kept : (T : Table) → Fine T → (c : Call) → CallOctets c → Fine
 
       done : (g : Out) → g ≡ step T (m .call) → g .answer ≡ 0 → standing l (spacesFor (m .call)) ≡ 0 → gave (encode T) m ≡ given l g → Next T m
       done g e z st w =
-          by (given l g) w (g .table) (subst (λ (x : Out). Fine (x .table)) (sym e) (kept T f (m .call) o)) refl
+          by (given l g) w (g .table) (subst (λ (x : Out). Fine (x .table)) (sym e) (kept T f (m .call) o)) refl (subst (SameShares T) (sym e) (step-shares T (m .call)))
           (for-each (serviceOf (m .call)) (begunBy (m .call) (given l g)) (endedBy (m .call) (given l g)) T (g .table) moved)
         where
           fit : Fit (g .rows)
@@ -267,8 +282,22 @@ module _ (kept : (T : Table) → Fine T → (c : Call) → CallOctets c → Fine
       answered : (n : ℕ) → step T (m .call) .answer ≡ n → standing l (spacesFor (m .call)) ≡ 0 → gave (encode T) m ≡ shown 0 l (step T (m .call)) → Next T m
       answered zero z st w = done (step T (m .call)) refl z st (w ∙ sym (eq _ _ _ _ z refl))
       answered (suc n) z st w =
-          by (refusedBy (suc n) l) (w ∙ sym (ne _ _ _ _ (λ h. omega (arith, z, h)) (ap (λ (k : ℕ). refusedBy k l) (sym z)))) T f refl (nothing n)
+          by (refusedBy (suc n) l) (w ∙ sym (ne _ _ _ _ (λ h. omega (arith, z, h)) (ap (λ (k : ℕ). refusedBy k l) (sym z)))) T f refl (refl, refl) (nothing n)
 
       stand : (n : ℕ) → standing l (spacesFor (m .call)) ≡ n → Next T m
       stand zero e = answered (step T (m .call) .answer) refl e (ap (λ (k : ℕ). shown k l (step (view (encode T)) (m .call))) e ∙ ap (shown 0 l) same)
-      stand (suc n) e = by (refusedBy (suc n) l) (ap (λ (k : ℕ). shown k l (step (view (encode T)) (m .call))) e) T f refl (nothing n)
+      stand (suc n) e = by (refusedBy (suc n) l) (ap (λ (k : ℕ). shown k l (step (view (encode T)) (m .call))) e) T f refl (refl, refl) (nothing n)
+
+  -- ANY LIST OF CALLS, wrong ones among them
+  pub history : (T : Table) → Fine T → (ms : List Made) → AllOctets ms → Reached T ms
+  history T f [] o = record { to = T; fine = f; table = refl; shares = (refl, refl); counts = λ s. refl }
+  history T f (m ∷ ms) o = on (next T f m (o .0)) (history (next T f m (o .0) .to) (next T f m (o .0) .fine) ms (o .1))
+    where
+      on : (n : Next T m) → Reached (n .to) ms → Reached T (m ∷ ms)
+      on n r = record {
+        to = r .to;
+        fine = r .fine;
+        table = ap (λ (t : List ℕ). after t ms) (n .table) ∙ r .table;
+        shares = (r .shares .0 ∙ n .shares .0, r .shares .1 ∙ n .shares .1);
+        counts = λ s. omega (arith, n .counts s, r .counts s, ap (λ (t : List ℕ). begunOf s t ms) (n .table), ap (λ (t : List ℕ). endedOf s t ms) (n .table));
+      }

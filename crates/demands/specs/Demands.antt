@@ -1,0 +1,139 @@
+-- DEMAND 3, over every history of calls at octets. Assumes nothing.
+use mathlib.Core.Path.{_≡_, refl, sym, ap, subst, _∙_}
+use mathlib.Core.Bool.{Bool, true, false}
+use mathlib.Core.List.{List, [], _∷_}
+use mathlib.Core.Logic.{_⊎_, inl, inr}
+use Prim.Native.Nat.{ℕ, zero, suc, _+_, _-_, _≤_, _<_}
+use native.Mathlib.Omega.{arith}
+use lib.ListN.{length, getD}
+use Rattle.laws.specs.If.{ifLt, ifEq, ifB, lt, eq, ge, yes, no}
+use Rattle.paper.specs.Sizes.{placesInAll, services}
+use Rattle.paper.specs.Shares.{gives, others, free, sharesFit}
+use Rattle.paper.specs.Calls.{Table, Call, Out, guaranteeOf, limitOf, held, mayBegin, opened, openedAt, lowestFree, refuse, step, freshTable}
+use Rattle.paper.specs.Calls.Call.{Open, OnDialogue, Receive}
+use Rattle.paper.specs.Layout.{encode, view}
+use Rattle.paper.specs.Outcome.{Lent, Outcome, standing, shown, outcome, noSpace}
+use Rattle.facts.specs.Fine.{Fine}
+use Rattle.facts.specs.Whole.{view-encode}
+use Rattle.facts.specs.Ready.{encode-stands}
+use Rattle.shares.specs.Share.{Shares, Sound, below-given, refused-at-limit, refused-full, refused-why}
+use Rattle.demands.specs.Steps.{table-shares, table-sound}
+use Rattle.demands.specs.Shares.{fresh-fine, fresh-held}
+use Rattle.demands.specs.History.{Made, gave, after, begunOf, endedOf, AllOctets, CallOctets, Reached, history}
+
+-- an open by a service, as a host makes it
+abbrev pub asks : ℕ → Made
+asks s = record { call = Open s; rows = []; space = [] }
+
+-- what an open is answered on a table that keeps the rules: the share rule
+open-answer : (T : Table) → Fine T → (s : ℕ) → s < services → gave (encode T) (asks s) .answer ≡ ifB (mayBegin T s) 0 7
+unfolding outcome standing step opened
+open-answer T f s h =
+    ap (λ (n : ℕ). shown n l (step (view (encode T)) (Open s)) .answer) stands ∙ ap (λ (U : Table). shown 0 l (step U (Open s)) .answer) (view-encode T f) ∙ by (mayBegin T s) refl
+  where
+    l : Lent
+    l = record { table = encode T; rows = []; space = [] }
+
+    stands : standing l noSpace ≡ 0
+    stands = sym (eq _ _ _ _ (encode-stands T f .0) (ge _ _ _ _ (omega arith) (ge _ _ _ _ (omega arith) (yes _ _ _ (encode-stands T f .1) refl))))
+
+    given-is : (o : Out) → step T (Open s) ≡ o → shown 0 l (step T (Open s)) .answer ≡ shown 0 l o .answer
+    given-is o e = ap (λ (x : Out). shown 0 l x .answer) e
+
+    by : (b : Bool) → mayBegin T s ≡ b → shown 0 l (step T (Open s)) .answer ≡ ifB (mayBegin T s) 0 7
+    by true e =
+        given-is (openedAt T s (lowestFree T)) (sym (lt _ _ _ _ h (yes _ _ _ e refl)))
+        ∙ ap (λ (x : Outcome). x .answer) (sym (eq 0 0 _ _ refl refl)) ∙ yes _ _ _ e refl
+    by false e =
+        given-is (refuse 7 T) (sym (lt _ _ _ _ h (no _ _ _ e refl))) ∙ ap (λ (x : Outcome). x .answer) (sym (ne-seven _ _)) ∙ no _ _ _ e refl
+      where
+        ne-seven : (x y : Outcome) → y ≡ ifEq 7 0 x y
+        ne-seven x y = Rattle.laws.specs.If.ne 7 0 x y (λ h. omega arith) refl
+
+-- THE STEP KEEPS THE RULES is taken as `kept`; a fresh table with sound shares; any list of calls that hands the table on unaltered
+module _ (kept : (T : Table) → Fine T → (c : Call) → CallOctets c → Fine (step T c .table)) (g l : List ℕ) (a : length g ≡ 16) (b : length l ≡ 16)
+    (fits : sharesFit placesInAll services (λ k. getD g k 0) (λ k. getD l k 0) ≡ true) (ms : List Made) (o : AllOctets ms) where
+  abbrev guarantee : ℕ → ℕ
+  guarantee s = getD g s 0
+
+  abbrev limit : ℕ → ℕ
+  limit s = getD l s 0
+
+  abbrev start : List ℕ
+  start = encode (freshTable g l)
+
+  -- a service's dialogues: "those begun less those ended, counted from the calls"
+  abbrev pub dialogues : ℕ → ℕ
+  dialogues s = begunOf s start ms - endedOf s start ms
+
+  pub reached : Reached (freshTable g l) ms
+  reached = history kept (freshTable g l) (fresh-fine g l a b fits) ms o
+
+  -- the count is what the table holds
+  pub counted : (s : ℕ) → (begunOf s start ms ≡ endedOf s start ms + dialogues s) × (dialogues s ≡ held (reached .to .places) s)
+  counted s =
+      let z : held (freshTable g l .places) s ≡ 0 = ap (λ (c : ℕ → ℕ). c s) (fresh-held g l) in
+      (omega (arith, reached .counts s, z), omega (arith, reached .counts s, z))
+
+  counts : dialogues ≡ held (reached .to .places)
+  counts = λ i s. counted s .1 i
+
+  -- the shares are those of the fresh table
+  guarantees-are : guaranteeOf (reached .to) ≡ guarantee
+  unfolding freshTable
+  guarantees-are = ap {B = ℕ → ℕ} (λ (x : List ℕ). λ (s : ℕ). getD x s 0) (reached .shares .0)
+
+  limits-are : limitOf (reached .to) ≡ limit
+  unfolding freshTable
+  limits-are = ap {B = ℕ → ℕ} (λ (x : List ℕ). λ (s : ℕ). getD x s 0) (reached .shares .1)
+
+  shares : Shares placesInAll services guarantee limit
+  shares =
+      subst (λ (x : ℕ → ℕ). Shares placesInAll services x limit) guarantees-are
+      (subst (Shares placesInAll services (guaranteeOf (reached .to))) limits-are (table-shares (reached .to) (reached .fine)))
+
+  sound : Sound placesInAll services guarantee limit dialogues
+  sound =
+      subst (λ (x : ℕ → ℕ). Sound placesInAll services x limit dialogues) guarantees-are
+      (subst (λ (x : ℕ → ℕ). Sound placesInAll services (guaranteeOf (reached .to)) x dialogues) limits-are
+      (subst (Sound placesInAll services (guaranteeOf (reached .to)) (limitOf (reached .to))) (sym counts) (table-sound (reached .to) (reached .fine))))
+
+  -- the rule that decides: on what the calls tell
+  rule : (s : ℕ) → mayBegin (reached .to) s ≡ gives placesInAll services guarantee limit dialogues s
+  unfolding mayBegin
+  rule s =
+      ap (λ (x : ℕ → ℕ). gives placesInAll services x (limitOf (reached .to)) (held (reached .to .places)) s) guarantees-are
+      ∙ ap (λ (x : ℕ → ℕ). gives placesInAll services guarantee x (held (reached .to .places)) s) limits-are
+      ∙ ap (λ (x : ℕ → ℕ). gives placesInAll services guarantee limit x s) (sym counts)
+
+  -- what the next open is answered
+  pub answer : ℕ → ℕ
+  answer s = gave (after start ms) (asks s) .answer
+
+  answered : (s : ℕ) → s < services → answer s ≡ ifB (gives placesInAll services guarantee limit dialogues s) 0 7
+  unfolding answer
+  answered s h =
+      ap (λ (t : List ℕ). gave t (asks s) .answer) (reached .table) ∙ open-answer (reached .to) (reached .fine) s h ∙ ap (λ (x : Bool). ifB x 0 7) (rule s)
+
+  -- DEMAND 3: "no service has more dialogues than its limit"
+  pub within-limit : (s : ℕ) → s < services → dialogues s ≤ limit s
+  within-limit s h = sound .limits s h
+
+  -- "a service below its guarantee is never refused a place"
+  pub never-refused : (s : ℕ) → s < services → dialogues s < guarantee s → answer s ≡ 0
+  never-refused s h q = answered s h ∙ sym (yes _ _ _ (below-given placesInAll services guarantee limit dialogues s q) refl)
+
+  -- "one at or above it is refused exactly when it is at its limit, or when the free places equal the other services' unused guarantees"
+  pub refused-then : (s : ℕ) → s < services → guarantee s ≤ dialogues s
+      → (dialogues s ≡ limit s) ⊎ (free placesInAll services dialogues ≡ others services guarantee dialogues s) → answer s ≡ 7
+  refused-then s h q (inl e) = answered s h ∙ sym (no _ _ _ (refused-at-limit placesInAll services guarantee limit dialogues s q e) refl)
+  refused-then s h q (inr e) = answered s h ∙ sym (no _ _ _ (refused-full placesInAll services guarantee limit dialogues s q e) refl)
+
+  pub refused-only : (s : ℕ) → s < services → guarantee s ≤ dialogues s → answer s ≡ 7
+      → (dialogues s ≡ limit s) ⊎ (free placesInAll services dialogues ≡ others services guarantee dialogues s)
+  refused-only s h q e = go (gives placesInAll services guarantee limit dialogues s) refl
+    where
+      go : (x : Bool) → gives placesInAll services guarantee limit dialogues s ≡ x
+          → (dialogues s ≡ limit s) ⊎ (free placesInAll services dialogues ≡ others services guarantee dialogues s)
+      go true z = let w : _≡_ {A = ℕ} 7 0 = sym e ∙ answered s h ∙ sym (yes _ _ _ z refl) in absurd (omega arith)
+      go false z = refused-why placesInAll services guarantee limit dialogues s q z
