@@ -1,18 +1,19 @@
 // The table rules (01, "Answer numbers"): one pass over the 128 places, which counts them too, so that no call walks the table twice.
 // A run of zeros is an OR over all of it, which is quicker than leaving at the first octet that is not 0.
 ghost use mathlib.Core.Path.{_≡_};
+ghost use mathlib.Core.Bool.{false};
 ghost use mathlib.Core.List.{[], _∷_};
 ghost use Prim.Native.Nat.{ℕ, _+_, _*_, _-_, _≤_, _<_};
 ghost use lib.Dec.{eqb};
 ghost use lib.ListN.{length, drop, getD};
 ghost use Rattle.laws.specs.Lists.{zeros};
 ghost use Rattle.paper.specs.Invocations.{isOpen};
-ghost use Rattle.paper.specs.Calls.{held};
+ghost use Rattle.paper.specs.Calls.{held, mayBegin};
 ghost use Rattle.paper.specs.Layout.{invocationBy, rejectBy, controlBy, view};
 ghost use Rattle.paper.specs.Rules.{freeKept, invocationKept, invocationsKept, rejectKept, rejectsKept, hasPeer, peerKept, waitingKept, usedKept};
 ghost use Rattle.rules.specs.Kinds.{invocationsFrom, noneOpen, invocationAtKept, IdleFrom, rejectsFrom, rejectAtKept, octetsKept, headKept, tailKept, kindOf};
 ghost use Rattle.rules.specs.Tally.{FreeRun};
-ghost use Rattle.rules.specs.Checking.{Scanned, shareKept, freeOf, SharesTold, CheckTold};
+ghost use Rattle.rules.specs.Checking.{Scanned, shareKept, freeOf, SharesTold, Passed, CheckTold};
 
 // Whether a place's octets are all 0 from k on.
 fn zeros_from(rec: &[u8], k: usize) -> bool
@@ -118,6 +119,7 @@ fn invocation_at_kept(rec: &[u8], i: usize, n: usize) -> bool
     false
 }
 
+// Each of the n first invocations; from the n-th on none is open.
 fn each_invocation_kept(rec: &[u8], n: usize) -> bool
     requires { ⌜ (length (now rec) ≡ 284) × IdleFrom n (now rec) ⌝ }
     ensures { λ r. ⌜ r ≡ invocationsKept (invocationsFrom 0 (now (rec .entry))) ⌝ }
@@ -183,6 +185,7 @@ fn reject_at_kept(rec: &[u8], n: u8, i: u8) -> bool
     o == 0
 }
 
+// Each of the eight rejects, of which n wait.
 fn each_reject_kept(rec: &[u8], n: u8) -> bool
     requires { ⌜ length (now rec) ≡ 284 ⌝ }
     ensures { λ r. ⌜ r ≡ rejectsKept n (rejectsFrom 0 (now (rec .entry))) ⌝ }
@@ -474,6 +477,15 @@ pub struct Parted {
     pub unused: u32,
 }
 
+fn unfair() -> Parted
+    ensures { λ r. ⌜ r .ok ≡ false ⌝ }
+{
+    Parted {
+        ok: false,
+        unused: 0,
+    }
+}
+
 // The share rules, and the guarantees that are not used.
 fn shares_kept(t: &[u8], counts: [u8; 16], free: u32) -> Parted
     requires { ⌜ (length (now t) ≡ 36400) × ((k : ℕ) → k < 16 → getD counts k 0 ≡ held (view (now t) .places) k) × (free ≡ freeOf (view (now t))) ⌝ }
@@ -492,23 +504,14 @@ fn shares_kept(t: &[u8], counts: [u8; 16], free: u32) -> Parted
             unused = unused + unused_of(g, c);
             k += 1;
         } else {
-            return Parted {
-                ok: false,
-                unused: 0,
-            };
+            return unfair();
         }
     }
     if 128 < sum {
-        return Parted {
-            ok: false,
-            unused: 0,
-        };
+        return unfair();
     }
     if free < unused {
-        return Parted {
-            ok: false,
-            unused: 0,
-        };
+        return unfair();
     }
     Parted {
         ok: true,
@@ -559,4 +562,17 @@ pub fn check(t: &[u8]) -> Checked
         return refused(2);
     }
     refused(2)
+}
+
+// Whether a service is given a place (demand 3), by what the check counted.
+pub fn may_begin(t: &[u8], service: usize, counts: [u8; 16], unused: u32, free: u32) -> bool
+    requires { ⌜ Passed (now t) counts unused free × (service < 16) ⌝ }
+    ensures { λ r. ⌜ r ≡ mayBegin (view (now (t .entry))) service ⌝ }
+{
+    let i = 16 + service;
+    let j = 32 + service;
+    let guarantee = number(t[i]);
+    let limit = number(t[j]);
+    let count = number(counts[service]);
+    shares::gives_place(count, guarantee, limit, unused, free)
 }
