@@ -78,7 +78,7 @@ pub fn bit_at(t: &[u8], p: usize) -> u8
 {
     let i = p / 8;
     let q = p % 8;
-    t[i] / POWERS[q] % 2
+    (t[i] >> q) % 2
 }
 
 // The bit of place p, which was clear, is set.

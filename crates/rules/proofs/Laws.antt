@@ -20,7 +20,7 @@ use Rattle.paper.specs.Problems.{problem, codeOf, senderOf, senderOfProblem, by
 use Rattle.paper.specs.Invocations.{isOpen, slotOf}
 use Rattle.paper.specs.Layout.{invocationBy, invocationsAt, rejectBy, rejectsAt, placeStart, slot, mapBit}
 use Rattle.paper.specs.Rules.{invocationKept, differs, invocationsKept, rejectKept, rejectZero, rejectsKept, isSoundItem, waitingKept}
-use Rattle.rules.specs.Kinds.{invocationNo, invocationsFrom, noneOpen, invocationAtKept, rejectNo, rejectsFrom, rejectAtKept, octetsKept, kindOf, kindAt}
+use Rattle.rules.specs.Kinds.{invocationNo, invocationsFrom, IdleFrom, noneOpen, invocationAtKept, rejectNo, rejectsFrom, rejectAtKept, octetsKept, tailKept, kindOf, kindAt}
 
 -- ---- an OR over a run
 or-zero : (a b : ℕ) → eqb (bitOr a b) 0 ≡ (eqb a 0 && eqb b 0)
@@ -206,6 +206,10 @@ unfolding ifB
 first true k n = eqb·zero-suc n
 first false k n = eqb·suc-suc k n
 
+as-test : (o : ℕ) (r : Bool) → ifB (eqb o 0) r false ≡ ifEq o 0 r false
+unfolding ifB ifEq
+as-test o r = refl
+
 -- ---- the invocations one after another
 module _ (s : List ℕ) (i : ℕ) (h : i < 8) where
   pub invocations-step : invocationsFrom i s ≡ invocationNo s i ∷ invocationsFrom (i + 1) s
@@ -257,6 +261,9 @@ module _ (s : List ℕ) (n i : ℕ) (h : i < 8) where
 
 -- ---- none open, none waiting: all zero
 module _ (s : List ℕ) where
+  later : (n a i : ℕ) → ((i : ℕ) → i < 2 * suc n → getD s (a + i) 0 ≡ 0) → i < 2 * n → getD s (suc (suc a) + i) 0 ≡ 0
+  later n a i z l = let w : suc (suc a) + i ≡ a + (2 + i) = omega arith in ap (λ (k : ℕ). getD s k 0) w ∙ z (2 + i) (omega arith)
+
   pub none-open : (n a : ℕ) → ((i : ℕ) → i < 2 * n → getD s (a + i) 0 ≡ 0) → true ≡ invocationsKept (invocationsAt n a s)
   unfolding invocationsKept invocationKept differs
   none-open zero a z = refl
@@ -264,10 +271,16 @@ module _ (s : List ℕ) where
       let p : getD s a 0 ≡ 0 = ap (λ (k : ℕ). getD s k 0) (sym (add-zero a)) ∙ z 0 (omega arith) in
       let q : getD s (suc a) 0 ≡ 0 = ap (λ (k : ℕ). getD s k 0) (sym (add-one a)) ∙ z 1 (omega arith) in
       yes _ _ _ (sym (eq _ _ _ _ (omega (arith, q)) (eq _ _ _ _ p (eq _ _ _ _ (omega (arith, q)) (sym (eq-eqb (getD s (suc a) 0 / 64) 0 (omega (arith, q))))))))
-      (yes _ _ _ (sym (eq _ _ _ _ (omega (arith, q)) refl)) (none-open n (suc (suc a)) (λ i l. later a i z l)))
-    where
-      later : (a i : ℕ) → ((i : ℕ) → i < 2 * suc n → getD s (a + i) 0 ≡ 0) → i < 2 * n → getD s (suc (suc a) + i) 0 ≡ 0
-      later a i z l = let w : suc (suc a) + i ≡ a + (2 + i) = omega arith in ap (λ (k : ℕ). getD s k 0) w ∙ z (2 + i) (omega arith)
+      (yes _ _ _ (sym (eq _ _ _ _ (omega (arith, q)) refl)) (none-open n (suc (suc a)) (λ i l. later n a i z l)))
+
+  pub none-found : (id n a : ℕ) → ((i : ℕ) → i < 2 * n → getD s (a + i) 0 ≡ 0) → noneOpen id (invocationsAt n a s) ≡ true
+  unfolding noneOpen slotOf firstAt isOpen
+  none-found id zero a z = refl
+  none-found id (suc n) a z =
+      let q : getD s (suc a) 0 ≡ 0 = ap (λ (k : ℕ). getD s k 0) (sym (add-one a)) ∙ z 1 (omega arith) in
+      first (isOpen id (invocationBy (getD s a 0) (getD s (suc a) 0))) (slotOf (invocationsAt n (suc (suc a)) s) id) (length (invocationsAt n (suc (suc a)) s))
+      ∙ sym (no _ _ _ (sym (eq _ _ _ _ (omega (arith, q)) refl)) refl)
+      ∙ none-found id n (suc (suc a)) (λ i l. later n a i z l)
 
   pub none-waiting : (n a : ℕ) → ((i : ℕ) → i < 2 * n → getD s (a + i) 0 ≡ 0) → true ≡ rejectsKept 0 (rejectsAt n a s)
   unfolding rejectsKept rejectZero
@@ -275,10 +288,7 @@ module _ (s : List ℕ) where
   none-waiting (suc n) a z =
       let p : getD s a 0 ≡ 0 = ap (λ (k : ℕ). getD s k 0) (sym (add-zero a)) ∙ z 0 (omega arith) in
       let q : getD s (suc a) 0 ≡ 0 = ap (λ (k : ℕ). getD s k 0) (sym (add-one a)) ∙ z 1 (omega arith) in
-      yes _ _ _ (sym (eq _ _ _ _ (omega (arith, p, q)) (sym (eq-eqb (problem (getD s (suc a) 0 / 8 % 16) (getD s (suc a) 0 % 8)) 0 (omega (arith, q)))))) (none-waiting n (suc (suc a)) (λ i l. later a i z l))
-    where
-      later : (a i : ℕ) → ((i : ℕ) → i < 2 * suc n → getD s (a + i) 0 ≡ 0) → i < 2 * n → getD s (suc (suc a) + i) 0 ≡ 0
-      later a i z l = let w : suc (suc a) + i ≡ a + (2 + i) = omega arith in ap (λ (k : ℕ). getD s k 0) w ∙ z (2 + i) (omega arith)
+      yes _ _ _ (sym (eq _ _ _ _ (omega (arith, p, q)) (sym (eq-eqb (problem (getD s (suc a) 0 / 8 % 16) (getD s (suc a) 0 % 8)) 0 (omega (arith, q)))))) (none-waiting n (suc (suc a)) (λ i l. later n a i z l))
 
 -- two words that are 0
 pub words-zero : (s : List ℕ) (a : ℕ) → wordAt s a ≡ 0 → wordAt s (a + 8) ≡ 0 → (i : ℕ) → i < 16 → getD s (a + i) 0 ≡ 0
@@ -291,14 +301,32 @@ words-zero s a x y i h = go (ltb i 8) refl
         let q : a + i ≡ a + 8 + (i - 8) = omega arith in
         ap (λ (k : ℕ). getD s k 0) q ∙ word-zero s (a + 8) y (i - 8) (omega arith)
 
--- ---- past the last of them
-pub open-end : (s : List ℕ) (id k : ℕ) → k ≡ 8 → noneOpen id (invocationsFrom k s) ≡ true
-unfolding noneOpen slotOf firstAt
-open-end s id k e = ap (λ (i : ℕ). noneOpen id (invocationsFrom i s)) e
+-- ---- past the last of them that may be open
+module _ (s : List ℕ) (n k : ℕ) (h : IdleFrom n s) (e : k ≡ n) where
+  rest : (i : ℕ) → i < 2 * (8 - k) → getD s (12 + 2 * k + i) 0 ≡ 0
+  rest i l = ap (λ (m : ℕ). getD s (12 + 2 * m + i) 0) e ∙ h .zero i (omega arith)
 
-pub kept-end : (s : List ℕ) (k : ℕ) → k ≡ 8 → invocationsKept (invocationsFrom k s) ≡ true
-unfolding invocationsKept
-kept-end s k e = ap (λ (i : ℕ). invocationsKept (invocationsFrom i s)) e
+  pub kept-end : invocationsKept (invocationsFrom k s) ≡ true
+  kept-end = sym (none-open s (8 - k) (12 + 2 * k) rest)
+
+  pub open-end : (id : ℕ) → noneOpen id (invocationsFrom k s) ≡ true
+  open-end id = none-found s id (8 - k) (12 + 2 * k) rest
+
+pub idle-eight : (s : List ℕ) → IdleFrom 8 s
+idle-eight s = record { few = omega arith; zero = λ i l. absurd (omega arith) }
+
+pub idle-four : (s : List ℕ) → wordAt s 20 ≡ 0 → IdleFrom 4 s
+idle-four s e = record { few = omega arith; zero = λ i l. word-zero s 20 e i (omega arith) }
+
+pub idle-one : (s : List ℕ) → wordAt s 14 ≡ 0 → wordAt s 20 ≡ 0 → IdleFrom 1 s
+idle-one s x y = record { few = omega arith; zero = λ i l. go i (omega arith) (ltb i 8) refl }
+  where
+    go : (i : ℕ) → i < 14 → (b : Bool) → ltb i 8 ≡ b → getD s (14 + i) 0 ≡ 0
+    go i l true q = word-zero s 14 x i (ltb-true i 8 q)
+    go i l false q =
+        let m : 8 ≤ i = ltb-false i 8 q in
+        let w : 14 + i ≡ 20 + (i - 6) = omega arith in
+        ap (λ (k : ℕ). getD s k 0) w ∙ word-zero s 20 y (i - 6) (omega arith)
 
 pub waits-end : (s : List ℕ) (n k : ℕ) → k ≡ 8 → rejectsKept (n - k) (rejectsFrom k s) ≡ true
 unfolding rejectsKept
@@ -355,10 +383,7 @@ unfolding waitingKept components
 left-start w n = record { turns = length w - 0 + 1; enough = omega arith; same = sym (ne _ _ _ _ n refl) }
 
 module _ (w : List ℕ) (at : ℕ) (l : Left w at) (c : Component) (e : c ≡ componentAt w (length w) at) where
-  -- one turn less, and the component at `at` first
-  first-left : Left w at → ℕ
-  first-left l = l .turns - 1
-
+  -- the component at `at` first, then what is left with one turn less
   split : waitingKept w ≡ ifB (isSoundItem (record { start = at; part = c })) (every isSoundItem (goOn (ltb (nextStart (length w) c) (length w)) (λ _. items w (length w) (l .turns - 1) (nextStart (length w) c)))) false
   unfolding every items
   split =
@@ -391,3 +416,53 @@ module _ (w : List ℕ) (at : ℕ) (l : Left w at) (c : Component) (e : c ≡ co
       enough = omega (arith, l .enough);
       same = sound-split ∙ ap (λ (b : Bool). every isSoundItem (goOn b (λ _. items w (length w) (l .turns - 1) (c .stop)))) (lt-ltb (c .stop) (length w) h);
     }
+
+-- ---- the rejects and the waiting octets where there are none: one run of zeros
+reject-run : (id o : ℕ) (r : Bool) → o < 256 → ifB (rejectZero (rejectBy id o)) r false ≡ ifEq id 0 (ifEq o 0 r false) false
+reject-run id o r h = go (eqb id 0) refl
+  where
+    go : (b : Bool) → eqb id 0 ≡ b → ifB (rejectZero (rejectBy id o)) r false ≡ ifEq id 0 (ifEq o 0 r false) false
+    go true e =
+        let z : id ≡ 0 = eqb-true id 0 e in
+        ap (λ (t : Bool). ifB t r false) (sym (zero-is id o h z)) ∙ as-test o r ∙ eq _ _ _ _ z refl
+    go false e =
+        let n : id ≡ 0 → ⊥ = eqb-false id 0 e in
+        ap (λ (t : Bool). ifB t r false) (sym (zero-not id o h n)) ∙ sym (no false r false refl refl) ∙ ne _ _ _ _ n refl
+
+pub rejects-run : (s : List ℕ) → ((i : ℕ) → getD s i 0 < 256) → (n a : ℕ) → a + 2 * n ≤ length s
+    → ifB (rejectsKept 0 (rejectsAt n a s)) (zeros (drop (a + 2 * n) s)) false ≡ zeros (drop a s)
+unfolding rejectsKept
+rejects-run s o zero a h =
+    let e : a + 2 * 0 ≡ a = omega arith in
+    sym (yes true (zeros (drop (a + 2 * 0) s)) false refl refl) ∙ ap (λ (k : ℕ). zeros (drop k s)) e
+rejects-run s o (suc n) a h =
+    let e : a + 2 * suc n ≡ suc (suc a) + 2 * n = omega arith in
+    let p : a + 1 ≡ suc a = omega arith in
+    let q : suc a + 1 ≡ suc (suc a) = omega arith in
+    let z : Bool = rejectZero (rejectBy (getD s a 0) (getD s (suc a) 0)) in
+    let r : Bool = rejectsKept 0 (rejectsAt n (suc (suc a)) s) in
+    ap (λ (k : ℕ). ifB (ifB z r false) (zeros (drop k s)) false) e
+    ∙ sym (both z r (zeros (drop (suc (suc a) + 2 * n) s)))
+    ∙ ap (λ (b : Bool). ifB z b false) (rejects-run s o n (suc (suc a)) (omega arith))
+    ∙ reject-run (getD s a 0) (getD s (suc a) 0) (zeros (drop (suc (suc a)) s)) (o (suc a))
+    ∙ ap (λ (b : Bool). ifEq (getD s a 0) 0 b false) (sym (run-step s (suc a) (omega arith) ∙ ap (λ (k : ℕ). ifEq (getD s (suc a) 0) 0 (zeros (drop k s)) false) q))
+    ∙ sym (run-step s a (omega arith) ∙ ap (λ (k : ℕ). ifEq (getD s a 0) 0 (zeros (drop k s)) false) p)
+
+pub tail-none : (s : List ℕ) → ((i : ℕ) → getD s i 0 < 256) → length s ≡ 284 → getD s 10 0 ≡ 0 → getD s 11 0 ≡ 0 → zeros (drop 28 s) ≡ tailKept s
+unfolding tailKept
+tail-none s o e n k =
+    sym (rejects-run s o 8 28 (omega arith))
+    ∙ ap (λ (b : Bool). ifB (rejectsKept 0 (rejectsFrom 0 s)) b false) (octets-none s (getD s 10 0) n ∙ ge _ _ _ _ (omega arith) refl)
+    ∙ ap (λ (m : ℕ). ifB (rejectsKept m (rejectsFrom 0 s)) (ifLt 240 (getD s 10 0) false (octetsKept (getD s 10 0) s)) false) (sym k)
+
+-- ---- a free place more in a run
+pub free-more : (t : List ℕ) (p q : ℕ) → ((i : ℕ) → p ≤ i → i < q → kindAt t i ≡ 16) → kindAt t q ≡ 16 → (i : ℕ) → p ≤ i → i < q + 1 → kindAt t i ≡ 16
+free-more t p q f e i h l = go (eqb i q) refl
+  where
+    go : (b : Bool) → eqb i q ≡ b → kindAt t i ≡ 16
+    go true w = ap (kindAt t) (eqb-true i q w) ∙ e
+    go false w = let n : i ≡ q → ⊥ = eqb-false i q w in f i h (omega arith)
+
+-- ---- a kind that is neither a service nor 16
+pub above : (r k : ℕ) → r ≡ k → 16 ≤ r → (k ≡ 16 → ⊥) → 17 ≤ k
+above r k e h n = omega arith

@@ -11,8 +11,8 @@ use lib.ListN.{length, getD}
 use Rattle.laws.specs.If.{ifLt, ifEq, ifB, all, all-at, all-of, lt, ge, eq, ne, yes, no, was-ge, was-yes, true-false}
 use Rattle.laws.specs.Sums.{sum}
 use Rattle.paper.specs.Sizes.{placesInAll, services}
-use Rattle.paper.specs.Shares.{unused, free, limitFits, sharesFit, withinLimit, sharesKept}
-use Rattle.paper.specs.Calls.{Table, guaranteeOf, limitOf, held}
+use Rattle.paper.specs.Shares.{unused, free, gives, limitFits, sharesFit, withinLimit, sharesKept}
+use Rattle.paper.specs.Calls.{Table, guaranteeOf, limitOf, held, mayBegin}
 use Rattle.paper.specs.Layout.{tableSize, view}
 use Rattle.paper.specs.Rules.{placeKept, tableShares, rules}
 use Rattle.paper.specs.Outcome.{Lent, Spaces, standing}
@@ -94,12 +94,12 @@ module _ (T : Table) where
       }
 
   -- where one of them fails, the table breaks a rule
-  pub unfair : (Fair T → ⊥) → false ≡ tableShares T
-  unfair n = go (tableShares T) refl
+  pub unfair-told : (ok : Bool) (rest : ℕ) → ok ≡ false → (Fair T → ⊥) → SharesTold T ok rest
+  unfair-told ok rest e n = record { is = e ∙ go (tableShares T) refl; told = λ q. absurd (true-false (sym q ∙ e)) }
     where
       go : (b : Bool) → tableShares T ≡ b → false ≡ b
-      go true e = absurd (n (kept-fair e))
-      go false e = refl
+      go true w = absurd (n (kept-fair w))
+      go false w = refl
 
 -- ---- the check
 unfoldable pub tableAnswer : List ℕ → ℕ
@@ -205,3 +205,13 @@ pub unusedTo-step : (t : List ℕ) (k c : ℕ) → k < 16 → c ≡ held (view t
 unusedTo-step t k c h e =
     ap (unusedTo (view t)) (add-one k) ∙ ap (λ (n : ℕ). unusedTo (view t) k + (n - held (view t .places) k)) (guarantee-at t k h)
     ∙ ap (λ (n : ℕ). unusedTo (view t) k + (getD t (16 + k) 0 - n)) (sym e)
+
+-- and so the decision is the model's
+pub may-told : (t counts : List ℕ) (rest left s c g l : ℕ) (r : Bool) → Passed t counts rest left → s < 16 → c ≡ getD counts s 0 → g ≡ getD t (16 + s) 0
+    → l ≡ getD t (32 + s) 0 → ((g′ l′ c′ : ℕ → ℕ) (s′ : ℕ) → Told g′ l′ c′ s′ c g l rest left → r ≡ gives placesInAll services g′ l′ c′ s′)
+    → r ≡ mayBegin (view t) s
+unfolding mayBegin
+may-told t counts rest left s c g l r p h x y z f =
+    let o = passed-told t counts rest left s p h in
+    f (guaranteeOf (view t)) (limitOf (view t)) (held (view t .places)) s
+    (record { service = h; counted = x ∙ o .counted; guaranteed = y ∙ o .guaranteed; limited = z ∙ o .limited; kept = o .kept; remain = o .remain })

@@ -1,16 +1,19 @@
 // The table rules (01, "Answer numbers"): one pass over the 128 places, which counts them too, so that no call walks the table twice.
 // A run of zeros is an OR over all of it, which is quicker than leaving at the first octet that is not 0.
 ghost use mathlib.Core.Path.{_≡_};
+ghost use mathlib.Core.Bool.{false};
 ghost use mathlib.Core.List.{[], _∷_};
 ghost use Prim.Native.Nat.{ℕ, _+_, _*_, _-_, _≤_, _<_};
+ghost use lib.Dec.{eqb};
 ghost use lib.ListN.{length, drop, getD};
 ghost use Rattle.laws.specs.Lists.{zeros};
 ghost use Rattle.paper.specs.Invocations.{isOpen};
-ghost use Rattle.paper.specs.Calls.{held};
+ghost use Rattle.paper.specs.Calls.{held, mayBegin};
 ghost use Rattle.paper.specs.Layout.{invocationBy, rejectBy, controlBy, view};
-ghost use Rattle.paper.specs.Rules.{freeKept, invocationKept, invocationsKept, rejectKept, rejectsKept, hasPeer, peerKept, controlKept, waitingKept, usedKept};
-ghost use Rattle.rules.specs.Kinds.{invocationsFrom, noneOpen, invocationAtKept, rejectsFrom, rejectAtKept, octetsKept, kindOf};
-ghost use Rattle.rules.specs.Checking.{Scanned, shareKept, freeOf, SharesTold, CheckTold};
+ghost use Rattle.paper.specs.Rules.{freeKept, invocationKept, invocationsKept, rejectKept, rejectsKept, hasPeer, peerKept, waitingKept, usedKept};
+ghost use Rattle.rules.specs.Kinds.{invocationsFrom, noneOpen, invocationAtKept, IdleFrom, rejectsFrom, rejectAtKept, octetsKept, headKept, tailKept, kindOf};
+ghost use Rattle.rules.specs.Tally.{FreeRun};
+ghost use Rattle.rules.specs.Checking.{Scanned, shareKept, freeOf, SharesTold, Passed, CheckTold};
 
 // Whether a place's octets are all 0 from k on.
 fn zeros_from(rec: &[u8], k: usize) -> bool
@@ -81,13 +84,13 @@ fn is_open(id: u8, o: u8, wanted: u8) -> bool
     id == wanted
 }
 
-// "invoke IDs within a dialogue differ": no invocation from the i-th on is open with that ID.
-fn unused_from(rec: &[u8], id: u8, i: usize) -> bool
-    requires { ⌜ (length (now rec) ≡ 284) × (i ≤ 8) ⌝ }
+// "invoke IDs within a dialogue differ": no invocation from the i-th on is open with that ID. From the n-th on none is open.
+fn unused_from(rec: &[u8], id: u8, i: usize, n: usize) -> bool
+    requires { ⌜ (length (now rec) ≡ 284) × (i ≤ n) × IdleFrom n (now rec) ⌝ }
     ensures { λ r. ⌜ r ≡ noneOpen id (invocationsFrom i (now (rec .entry))) ⌝ }
 {
     let mut k = i;
-    while k < 8 {
+    while k < n {
         let a = 12 + 2 * k;
         let b = a + 1;
         if is_open(rec[a], rec[b], id) {
@@ -99,8 +102,8 @@ fn unused_from(rec: &[u8], id: u8, i: usize) -> bool
 }
 
 // The i-th invocation keeps the rules, and no later one has its ID.
-fn invocation_at_kept(rec: &[u8], i: usize) -> bool
-    requires { ⌜ (length (now rec) ≡ 284) × (i < 8) ⌝ }
+fn invocation_at_kept(rec: &[u8], i: usize, n: usize) -> bool
+    requires { ⌜ (length (now rec) ≡ 284) × (i < n) × IdleFrom n (now rec) ⌝ }
     ensures { λ r. ⌜ r ≡ invocationAtKept (now (rec .entry)) i ⌝ }
 {
     let a = 12 + 2 * i;
@@ -111,18 +114,19 @@ fn invocation_at_kept(rec: &[u8], i: usize) -> bool
         if o % 8 == 0 {
             return true;
         }
-        return unused_from(rec, id, i + 1);
+        return unused_from(rec, id, i + 1, n);
     }
     false
 }
 
-fn each_invocation_kept(rec: &[u8]) -> bool
-    requires { ⌜ length (now rec) ≡ 284 ⌝ }
+// Each of the n first invocations; from the n-th on none is open.
+fn each_invocation_kept(rec: &[u8], n: usize) -> bool
+    requires { ⌜ (length (now rec) ≡ 284) × IdleFrom n (now rec) ⌝ }
     ensures { λ r. ⌜ r ≡ invocationsKept (invocationsFrom 0 (now (rec .entry))) ⌝ }
 {
     let mut i: usize = 0;
-    while i < 8 {
-        if invocation_at_kept(rec, i) {
+    while i < n {
+        if invocation_at_kept(rec, i, n) {
             i += 1;
         } else {
             return false;
@@ -131,17 +135,18 @@ fn each_invocation_kept(rec: &[u8]) -> bool
     true
 }
 
-// The eight invocations; where none is open, two words say so.
+// The eight invocations: two words show how many at the end are not open.
 fn invocations_kept(rec: &[u8]) -> bool
     requires { ⌜ length (now rec) ≡ 284 ⌝ }
     ensures { λ r. ⌜ r ≡ invocationsKept (invocationsFrom 0 (now (rec .entry))) ⌝ }
 {
-    if freemap::word(rec, 12) == 0 {
-        if freemap::word(rec, 20) == 0 {
-            return true;
-        }
+    if freemap::word(rec, 20) != 0 {
+        return each_invocation_kept(rec, 8);
     }
-    each_invocation_kept(rec)
+    if freemap::word(rec, 14) != 0 {
+        return each_invocation_kept(rec, 4);
+    }
+    each_invocation_kept(rec, 1)
 }
 
 // "waiting rejects are ones the component sub-layer sends", by its two octets; only a general one may lack its ID.
@@ -180,6 +185,7 @@ fn reject_at_kept(rec: &[u8], n: u8, i: u8) -> bool
     o == 0
 }
 
+// Each of the eight rejects, of which n wait.
 fn each_reject_kept(rec: &[u8], n: u8) -> bool
     requires { ⌜ length (now rec) ≡ 284 ⌝ }
     ensures { λ r. ⌜ r ≡ rejectsKept n (rejectsFrom 0 (now (rec .entry))) ⌝ }
@@ -269,10 +275,10 @@ fn has_peer(state: u8) -> bool
     state == 4
 }
 
-// A dialogue's control record: "states, services .. and lengths are in range".
-fn control_kept(rec: &[u8]) -> bool
+// A dialogue's control record but its rejects: "states, services .. and lengths are in range".
+fn head_kept(rec: &[u8]) -> bool
     requires { ⌜ length (now rec) ≡ 284 ⌝ }
-    ensures { λ r. ⌜ r ≡ controlKept (controlBy (now (rec .entry))) ⌝ }
+    ensures { λ r. ⌜ r ≡ headKept (now (rec .entry)) ⌝ }
 {
     if rec[3] > 4 {
         return false;
@@ -281,14 +287,10 @@ fn control_kept(rec: &[u8]) -> bool
         return false;
     }
     if peer_kept(rec) {
-        let n = rec[11];
-        if n > 8 {
+        if rec[11] > 8 {
             return false;
         }
-        if invocations_kept(rec) {
-            return rejects_kept(rec, n);
-        }
-        return false;
+        return invocations_kept(rec);
     }
     false
 }
@@ -329,16 +331,19 @@ fn octets_kept(rec: &[u8], n: u8) -> bool
     false
 }
 
-// A place with a dialogue; its bit of the map is clear.
-fn used_kept(rec: &[u8], bit: u8) -> bool
+// Its rejects and its waiting octets; where it has neither, one run of zeros.
+fn tail_kept(rec: &[u8]) -> bool
     requires { ⌜ length (now rec) ≡ 284 ⌝ }
-    ensures { λ r. ⌜ r ≡ usedKept (now (rec .entry)) bit ⌝ }
+    ensures { λ r. ⌜ r ≡ tailKept (now (rec .entry)) ⌝ }
 {
-    if bit != 0 {
-        return false;
+    let n = rec[10];
+    let k = rec[11];
+    if n == 0 {
+        if k == 0 {
+            return zeros_from(rec, 28);
+        }
     }
-    if control_kept(rec) {
-        let n = rec[10];
+    if rejects_kept(rec, k) {
         if n > 240 {
             return false;
         }
@@ -347,15 +352,56 @@ fn used_kept(rec: &[u8], bit: u8) -> bool
     false
 }
 
-// A place's kind: its service, 16 free, 17 where it breaks a rule.
-fn kind_of(rec: &[u8], bit: u8) -> u8
+// A place with a dialogue; its bit of the map is clear.
+fn used_kept(rec: &[u8], bit: u8) -> bool
     requires { ⌜ length (now rec) ≡ 284 ⌝ }
+    ensures { λ r. ⌜ r ≡ usedKept (now (rec .entry)) bit ⌝ }
+{
+    if bit != 0 {
+        return false;
+    }
+    if head_kept(rec) {
+        return tail_kept(rec);
+    }
+    false
+}
+
+// Whether a place is free and keeps the rules.
+fn is_free(rec: &[u8], bit: u8) -> bool
+    requires { ⌜ length (now rec) ≡ 284 ⌝ }
+    ensures { λ r. ⌜ r ≡ eqb (kindOf (now (rec .entry)) bit) 16 ⌝ }
+{
+    if rec[3] != 0 {
+        return false;
+    }
+    free_kept(rec, bit)
+}
+
+// The first place from p on that is not free or breaks a rule; 128 where there is none. A run of free places is the quickest to check.
+fn free_end(t: &[u8], p: usize) -> usize
+    requires { ⌜ (length (now t) ≡ 36400) × (p ≤ 128) ⌝ }
+    ensures { λ r. ⌜ FreeRun (now (t .entry)) p r ⌝ }
+{
+    let mut q = p;
+    while q < 128 {
+        let a = 48 + q * 284;
+        let e = a + 284;
+        let b = freemap::bit_at(t, q);
+        if is_free(&t[a..e], b) {
+            q += 1;
+        } else {
+            return q;
+        }
+    }
+    q
+}
+
+// The kind of a place that is not free: its service, 17 where it breaks a rule.
+fn kind_of(rec: &[u8], bit: u8) -> u8
+    requires { ⌜ (length (now rec) ≡ 284) × (kindOf (now rec) bit ≡ 16 → ⊥) ⌝ }
     ensures { λ r. ⌜ r ≡ kindOf (now (rec .entry)) bit ⌝ }
 {
     if rec[3] == 0 {
-        if free_kept(rec, bit) {
-            return 16;
-        }
         return 17;
     }
     if used_kept(rec, bit) {
@@ -366,22 +412,22 @@ fn kind_of(rec: &[u8], bit: u8) -> u8
 
 pub struct Kinds {
     pub ok: bool,
-    pub counts: [u8; 17],
+    pub counts: [u8; 16],
 }
 
-// Every place checked, and how many there are of each kind.
+// Every place checked, and how many each service has.
 fn scan(t: &[u8]) -> Kinds
     requires { ⌜ length (now t) ≡ 36400 ⌝ }
     ensures { λ r. ⌜ Scanned (now (t .entry)) (r .ok) (r .counts) ⌝ }
 {
-    let mut counts: [u8; 17] = [0; 17];
-    let mut p: usize = 0;
+    let mut counts: [u8; 16] = [0; 16];
+    let mut p = free_end(t, 0);
     while p < 128 {
         let a = 48 + p * 284;
         let e = a + 284;
         let b = freemap::bit_at(t, p);
         let k = kind_of(&t[a..e], b);
-        if k >= 17 {
+        if k >= 16 {
             return Kinds {
                 ok: false,
                 counts: counts,
@@ -389,7 +435,7 @@ fn scan(t: &[u8]) -> Kinds
         }
         let i = k as usize;
         counts[i] = counts[i] + 1;
-        p += 1;
+        p = free_end(t, p + 1);
     }
     Kinds {
         ok: true,
@@ -431,8 +477,17 @@ pub struct Parted {
     pub unused: u32,
 }
 
+fn unfair() -> Parted
+    ensures { λ r. ⌜ r .ok ≡ false ⌝ }
+{
+    Parted {
+        ok: false,
+        unused: 0,
+    }
+}
+
 // The share rules, and the guarantees that are not used.
-fn shares_kept(t: &[u8], counts: [u8; 17], free: u32) -> Parted
+fn shares_kept(t: &[u8], counts: [u8; 16], free: u32) -> Parted
     requires { ⌜ (length (now t) ≡ 36400) × ((k : ℕ) → k < 16 → getD counts k 0 ≡ held (view (now t) .places) k) × (free ≡ freeOf (view (now t))) ⌝ }
     ensures { λ r. ⌜ SharesTold (view (now (t .entry))) (r .ok) (r .unused) ⌝ }
 {
@@ -449,23 +504,14 @@ fn shares_kept(t: &[u8], counts: [u8; 17], free: u32) -> Parted
             unused = unused + unused_of(g, c);
             k += 1;
         } else {
-            return Parted {
-                ok: false,
-                unused: 0,
-            };
+            return unfair();
         }
     }
     if 128 < sum {
-        return Parted {
-            ok: false,
-            unused: 0,
-        };
+        return unfair();
     }
     if free < unused {
-        return Parted {
-            ok: false,
-            unused: 0,
-        };
+        return unfair();
     }
     Parted {
         ok: true,
@@ -475,7 +521,7 @@ fn shares_kept(t: &[u8], counts: [u8; 17], free: u32) -> Parted
 
 pub struct Checked {
     pub answer: u32,
-    pub counts: [u8; 17],
+    pub counts: [u8; 16],
     pub unused: u32,
     pub free: u32,
 }
@@ -485,7 +531,7 @@ fn refused(answer: u32) -> Checked
 {
     Checked {
         answer: answer,
-        counts: [0; 17],
+        counts: [0; 16],
         unused: 0,
         free: 0,
     }
@@ -516,4 +562,17 @@ pub fn check(t: &[u8]) -> Checked
         return refused(2);
     }
     refused(2)
+}
+
+// Whether a service is given a place (demand 3), by what the check counted.
+pub fn may_begin(t: &[u8], service: usize, counts: [u8; 16], unused: u32, free: u32) -> bool
+    requires { ⌜ Passed (now t) counts unused free × (service < 16) ⌝ }
+    ensures { λ r. ⌜ r ≡ mayBegin (view (now (t .entry))) service ⌝ }
+{
+    let i = 16 + service;
+    let j = 32 + service;
+    let guarantee = number(t[i]);
+    let limit = number(t[j]);
+    let count = number(counts[service]);
+    shares::gives_place(count, guarantee, limit, unused, free)
 }

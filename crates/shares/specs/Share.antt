@@ -1,13 +1,14 @@
 -- THE SHARE RULE (demand 3), over any number of places N and services n: what shares and counts are sound, and what keeps them so.
 -- Assumes nothing.
 use mathlib.Core.Path.{_≡_, refl, sym, ap, _∙_}
-use mathlib.Core.Bool.{Bool, true, false, cond}
+use mathlib.Core.Bool.{Bool, true, false}
 use mathlib.Core.Logic.{_⊎_, inl, inr, ⊎-elim}
-use Prim.Native.Nat.{ℕ, zero, suc, _+_, _-_, _≤_, _<_}
+use Prim.Native.Nat.{ℕ, suc, _+_, _-_, _≤_, _<_}
+use native.Mathlib.Numerals.{add-one}
 use native.Mathlib.Omega.{arith}
 use lib.Dec.{ltb, leb, eqb}
 use borrow.Author.Tests.{eqb-true, eqb-false, ltb-true, ltb-false, leb-true, le-leb}
-use Rattle.laws.specs.If.{ifLt, ifEq, ifB, lt, ge, eq, ne, yes, no, was-ge, was-yes, by-eq, all, all-at, all-of, true-false}
+use Rattle.laws.specs.If.{ifEq, lt, ge, eq, ne, yes, no, was-ge, was-yes, by-eq, all, all-at, all-of, all-fails, true-false}
 use Rattle.laws.specs.Sums.{sum, but, sum-but, sum-ext, sum-zero}
 use Rattle.paper.specs.Shares.{unused, others, free, gives, limitFits, sharesFit, withinLimit, sharesKept}
 
@@ -154,3 +155,17 @@ module _ (N n : ℕ) (g l c : ℕ → ℕ) (shares : Shares N n g l) (sound : So
   -- where it gives, a place is left
   pub gives-room : gives N n g l c s ≡ true → sum c n < N
   gives-room t = omega (arith, take-sound t .room, sum-but c s (suc (c s)) n s<)
+
+-- ---- the shares of a fresh table, a service at a time
+module _ (N n : ℕ) (g l : ℕ → ℕ) where
+  pub fit-not : (k : ℕ) → k < n → limitFits N g l k ≡ false → false ≡ sharesFit N n g l
+  unfolding sharesFit
+  fit-not k h e = no _ _ _ (all-fails (limitFits N g l) n k h e) refl
+
+  pub fit-sum : (s k : ℕ) → k ≡ n → s ≡ sum g k → all (limitFits N g l) k ≡ true → leb s N ≡ sharesFit N n g l
+  unfolding sharesFit
+  fit-sum s k e q a =
+      yes _ _ _ (ap (all (limitFits N g l)) (sym e) ∙ a) (ap (λ (m : ℕ). leb m N) (q ∙ ap (sum g) e))
+
+  pub sum-more : (s k : ℕ) → s ≡ sum g k → s + g k ≡ sum g (k + 1)
+  sum-more s k e = ap (λ (m : ℕ). m + g k) e ∙ ap (sum g) (sym (add-one k))

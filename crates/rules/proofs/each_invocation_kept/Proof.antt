@@ -11,10 +11,10 @@ use Rattle.rules.proofs.each_invocation_kept.Statement.{statement}
 use Rattle.rules.proofs.each_invocation_kept.Tie as tie
 
 abbrev Inv-loop : tie.InvT-loop
-Inv-loop rec i₀ i = (i ≤ 8) × (invocationsKept (invocationsFrom 0 rec) ≡ invocationsKept (invocationsFrom i rec))
+Inv-loop rec n i₀ i = (i ≤ n) × (invocationsKept (invocationsFrom 0 rec) ≡ invocationsKept (invocationsFrom i rec))
 
 abbrev μ-loop : tie.MeasureT-loop
-μ-loop rec i₀ i = 8 - i
+μ-loop rec n i₀ i = n - i
 
 loop-holds : tie.Need-loop-holds Inv-loop μ-loop
 loop-holds c = (search needs, refl)
@@ -43,7 +43,8 @@ returns c =
 returns-2 : tie.Need-returns-2 Inv-loop μ-loop
 returns-2 c =
     let l = c .before in
-    sym (l .loop .inv .1 ∙ kept-end (l .before .before .args .rec .now) (l .loop .i) (omega arith))
+    let a = l .before .before .args in
+    sym (l .loop .inv .1 ∙ kept-end (a .rec .now) (a .n) (l .loop .i) (l .before .before .pre .1) (omega arith))
 
 pub each-invocation-kept-spec : {M : Type 1} → statement M
 each-invocation-kept-spec =

@@ -1,5 +1,5 @@
-use Rattle.rules.specs.Kinds.{kindOf}
-use Rattle.laws.specs.If.{eq, ne, yes, no}
+use Rattle.rules.specs.Kinds.{kindOf, kind-broken}
+use Rattle.laws.specs.If.{ne, yes, no}
 use mathlib.Core.Path.{refl}
 use native.Mathlib.Omega.{arith}
 use borrow.Author.Needs.{needs}
@@ -9,16 +9,8 @@ use Rattle.rules.proofs.kind_of.Tie as tie
 shared-slice-read-if1 : tie.Need-shared-slice-read-if1
 shared-slice-read-if1 c = search needs
 
-free-kept-requires : tie.Need-free-kept-requires
-free-kept-requires c κs = search needs
-
 returns : tie.Need-returns
-unfolding kindOf
-returns c = eq _ _ _ _ (omega arith) (yes _ _ _ (cc) refl)
-
-returns-2 : tie.Need-returns-2
-unfolding kindOf
-returns-2 c = eq _ _ _ _ (omega arith) (no _ _ _ (cc) refl)
+returns c = let s = c .before .before .before in kind-broken (s .args .rec .now) (s .args .bit) (omega arith) (s .pre .1)
 
 used-kept-requires : tie.Need-used-kept-requires
 used-kept-requires c κs = search needs
@@ -26,23 +18,21 @@ used-kept-requires c κs = search needs
 shared-slice-read-result : tie.Need-shared-slice-read-result
 shared-slice-read-result c = search needs
 
+returns-2 : tie.Need-returns-2
+unfolding kindOf
+returns-2 c = ne _ _ _ _ (λ h. omega arith) (yes _ _ _ (cc) refl)
+
 returns-3 : tie.Need-returns-3
 unfolding kindOf
-returns-3 c = ne _ _ _ _ (λ h. omega arith) (yes _ _ _ (cc) refl)
-
-returns-4 : tie.Need-returns-4
-unfolding kindOf
-returns-4 c = ne _ _ _ _ (λ h. omega arith) (no _ _ _ (cc) refl)
+returns-3 c = ne _ _ _ _ (λ h. omega arith) (no _ _ _ (cc) refl)
 
 pub kind-of-spec : {M : Type 1} → statement M
 kind-of-spec =
     tie.close
     (tie.spec
     shared-slice-read-if1
-    free-kept-requires
     returns
-    returns-2
     used-kept-requires
     shared-slice-read-result
-    returns-3
-    returns-4)
+    returns-2
+    returns-3)

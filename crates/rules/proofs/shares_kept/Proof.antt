@@ -1,5 +1,5 @@
 use Rattle.rules.proofs.Laws.{beyond, within}
-use Rattle.rules.specs.Checking.{shareAt, guaranteesTo, unusedTo, fair-kept, unfair, share-here, guaranteesTo-step, unusedTo-step}
+use Rattle.rules.specs.Checking.{shareAt, guaranteesTo, unusedTo, fair-kept, unfair-told, share-here, guaranteesTo-step, unusedTo-step}
 use Rattle.paper.specs.Layout.{view}
 use Rattle.paper.specs.Calls.{held}
 use Rattle.laws.specs.If.{all, all-at, all-step, true-false}
@@ -60,14 +60,15 @@ loop-less c = search needs
 
 loop-again : tie.Need-loop-again Inv-loop μ-loop
 loop-again c =
-    let l = c .before .before .before .before .before .before .before in
+    let d = c .before .before .before in
+    let l = d .before .before .before .before in
     let s = l .before .before in
     let t : List ℕ = s .args .t .now in
     let k : ℕ = l .loop .k in
     let n : ℕ = getD (s .args .t2) k 0 in
     let h : k < 16 = omega arith in
     let e : n ≡ held (view t .places) k = s .pre .1 k h in
-    let r : c .before .before .before .share-kept .result ≡ shareAt (view t) k = share-here t k n (c .before .before .before .share-kept .result) h e (c .before .before .before .share-kept .ensures) in (
+    let r : d .share-kept .result ≡ shareAt (view t) k = share-here t k n (d .share-kept .result) h e (d .share-kept .ensures) in (
       omega arith,
       all-step (shareAt (view t)) k (l .loop .inv .1) (sym r ∙ c .before .before .if1 .taken),
       omega (arith, guaranteesTo-step t k h),
@@ -76,44 +77,43 @@ loop-again c =
       omega arith,
     )
 
+unfair-requires : tie.Need-unfair-requires Inv-loop μ-loop
+unfair-requires c κs = search needs
+
 returns : tie.Need-returns Inv-loop μ-loop
 returns c =
-    let l = c .before .before .before .before .before in
+    let d = c .before .before in
+    let l = d .before .before .before .before in
     let s = l .before .before in
     let t : List ℕ = s .args .t .now in
     let k : ℕ = l .loop .k in
     let n : ℕ = getD (s .args .t2) k 0 in
     let h : k < 16 = omega arith in
     let e : n ≡ held (view t .places) k = s .pre .1 k h in
-    let r : c .before .share-kept .result ≡ shareAt (view t) k = share-here t k n (c .before .share-kept .result) h e (c .before .share-kept .ensures) in
-    record {
-      is = unfair (view t) (λ f. true-false (sym (f .each k h) ∙ sym r ∙ c .if1 .left));
-      told = λ q. absurd (true-false (sym q));
-    }
+    let r : d .share-kept .result ≡ shareAt (view t) k = share-here t k n (d .share-kept .result) h e (d .share-kept .ensures) in
+    unfair-told (view t) _ _ (c .unfair .ensures) (λ f. true-false (sym (f .each k h) ∙ sym r ∙ c .before .if1 .left))
+
+unfair-requires-2 : tie.Need-unfair-requires-2 Inv-loop μ-loop
+unfair-requires-2 c κs = search needs
 
 returns-2 : tie.Need-returns-2 Inv-loop μ-loop
 returns-2 c =
-    let l = c .before .before in
-    let t : List ℕ = l .before .before .args .t .now in
-    let e : l .loop .k ≡ 16 = omega arith in
-    let g : guaranteesTo (view t) 16 ≡ l .loop .sum = ap (guaranteesTo (view t)) (sym e) ∙ sym (l .loop .inv .2) in
-    let u : unusedTo (view t) 16 ≡ l .loop .unused = ap (unusedTo (view t)) (sym e) ∙ sym (l .loop .inv .3) in
-    record {
-      is = unfair (view t) (λ f. beyond g refl (c .if2 .taken) (f .fits));
-      told = λ q. absurd (true-false (sym q));
-    }
-
-returns-3 : tie.Need-returns-3 Inv-loop μ-loop
-returns-3 c =
     let l = c .before .before .before in
     let t : List ℕ = l .before .before .args .t .now in
     let e : l .loop .k ≡ 16 = omega arith in
     let g : guaranteesTo (view t) 16 ≡ l .loop .sum = ap (guaranteesTo (view t)) (sym e) ∙ sym (l .loop .inv .2) in
+    unfair-told (view t) _ _ (c .unfair2 .ensures) (λ f. beyond g refl (c .before .if2 .taken) (f .fits))
+
+unfair-requires-3 : tie.Need-unfair-requires-3 Inv-loop μ-loop
+unfair-requires-3 c κs = search needs
+
+returns-3 : tie.Need-returns-3 Inv-loop μ-loop
+returns-3 c =
+    let l = c .before .before .before .before in
+    let t : List ℕ = l .before .before .args .t .now in
+    let e : l .loop .k ≡ 16 = omega arith in
     let u : unusedTo (view t) 16 ≡ l .loop .unused = ap (unusedTo (view t)) (sym e) ∙ sym (l .loop .inv .3) in
-    record {
-      is = unfair (view t) (λ f. beyond u (l .before .before .pre .2) (c .if3 .taken) (f .room));
-      told = λ q. absurd (true-false (sym q));
-    }
+    unfair-told (view t) _ _ (c .unfair3 .ensures) (λ f. beyond u (l .before .before .pre .2) (c .before .if3 .taken) (f .room))
 
 returns-4 : tie.Need-returns-4 Inv-loop μ-loop
 returns-4 c =
@@ -151,7 +151,10 @@ shares-kept-spec =
     add-k
     loop-less
     loop-again
+    unfair-requires
     returns
+    unfair-requires-2
     returns-2
+    unfair-requires-3
     returns-3
     returns-4)

@@ -9,10 +9,10 @@ use Rattle.rules.proofs.unused_from.Statement.{statement}
 use Rattle.rules.proofs.unused_from.Tie as tie
 
 abbrev Inv-loop : tie.InvT-loop
-Inv-loop rec id i k₀ k = (k ≤ 8) × (noneOpen id (invocationsFrom i rec) ≡ noneOpen id (invocationsFrom k rec))
+Inv-loop rec id i n k₀ k = (k ≤ n) × (noneOpen id (invocationsFrom i rec) ≡ noneOpen id (invocationsFrom k rec))
 
 abbrev μ-loop : tie.MeasureT-loop
-μ-loop rec id i k₀ k = 8 - k
+μ-loop rec id i n k₀ k = n - k
 
 loop-holds : tie.Need-loop-holds Inv-loop μ-loop
 loop-holds c = (search needs, refl)
@@ -57,7 +57,7 @@ returns-2 : tie.Need-returns-2 Inv-loop μ-loop
 returns-2 c =
     let l = c .before in
     let a = l .before .before .args in
-    sym (l .loop .inv .1 ∙ open-end (a .rec .now) (a .id) (l .loop .k) (omega arith))
+    sym (l .loop .inv .1 ∙ open-end (a .rec .now) (a .n) (l .loop .k) (l .before .before .pre .2) (omega arith) (a .id))
 
 pub unused-from-spec : {M : Type 1} → statement M
 unused-from-spec =

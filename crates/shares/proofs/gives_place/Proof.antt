@@ -2,8 +2,6 @@ use native.Mathlib.Omega.{arith}
 use Rattle.shares.specs.Telling.{told-below, told-limit, told-full, told-room}
 use Rattle.shares.proofs.gives_place.Statement.{statement}
 use Rattle.shares.proofs.gives_place.Tie as tie
-use Rattle.shares.proofs.gives_place.Reads as reads
-use Rattle.shares.proofs.gives_place.Lts as lts
 
 returns : tie.Need-returns
 returns c g l n s t = told-below g l n s _ _ _ _ _ t (omega arith)
