@@ -14,11 +14,12 @@ use Rattle.paper.specs.declared.Control.{Control}
 use Rattle.paper.specs.declared.Acted.{Acted}
 use Rattle.paper.specs.Elements.{element, frameAt}
 use Rattle.paper.specs.Problems.{senderOf, senderOfProblem, byLayer, problem, general, kindOf}
-use Rattle.paper.specs.Components.{rejectTag, errorTag, noID, faulty, single, lastPiece, invokePieces, resultBoth, resultPieces, rejectPieces, nullPieces, piecesAfter, pieces, readProblem, ifNested, framed, tagAt, componentAt, Item, nextStart, goOn, items, components}
+use Rattle.paper.specs.Components.{rejectTag, errorTag, noID, faulty, single, pieces, readProblem, ifNested, framed, tagAt, componentAt, Item, nextStart, goOn, items, components}
 use Rattle.paper.specs.Invocations.{stateOf, toState, toIdle, notLastShown, rejected, answerProblem, answersSent, answers, invokes, released, rejects, faultyReject, faults, act}
 use Rattle.paper.specs.Rows.{allActed}
 use Rattle.components.specs.Bounds.{component-in}
 use Rattle.facts.specs.Fine.{Octets, FineControl}
+use Rattle.kept.specs.Leaves.{null-leaf, after-leaf}
 use Rattle.kept.specs.Controls.{to-idle-fine, to-state-fine, shown-fine, with-reject-fine}
 
 -- A COMPONENT AS IT IS READ: only a reject that is sound may lack its ID
@@ -27,44 +28,6 @@ pub record Readable (p : Component) : Type 0 where
   pub code : p .fault ≤ 3
   pub named : p .fault ≡ 3 → (p .tag ≡ rejectTag → ⊥) → p .id < 256
 
--- the pieces after an ID leave it
-module _ (s : List ℕ) (id x : ℕ) (r : Component) where
-  id-of : {c : Component} → r ≡ c → c .id ≡ id → r .id ≡ id
-  id-of z e = ap (λ (c : Component). c .id) z ∙ e
-
-  last-id : (t l e q : ℕ) → r ≡ lastPiece s t id l x e q → r .id ≡ id
-  unfolding lastPiece
-  last-id t l e q z =
-      by-eq _ _ _ _ z (λ a z. id-of z refl) (λ a z. by-eq _ _ _ _ z (λ b z. id-of z refl) (λ b z. by-b _ _ _ z (λ o z. id-of z refl) (λ o z. id-of z refl)))
-
-  result-id : (t e p : ℕ) → r ≡ resultPieces s t id x e p → r .id ≡ id
-  unfolding resultPieces resultBoth
-  result-id t e p z =
-      by-eq _ _ _ _ z (λ a z. id-of z refl)
-      (λ a z. by-eq _ _ _ _ z
-      (λ b z. by-b _ _ _ z
-      (λ o z. by-eq _ _ _ _ z (λ c z. id-of z refl) (λ c z. by-b _ _ _ z (λ d z. id-of z refl) (λ d z. id-of z refl)))
-      (λ o z. id-of z refl))
-      (λ b z. id-of z refl))
-
-  after-id : (t e p : ℕ) → r ≡ piecesAfter s t id x e p → r .id ≡ id
-  unfolding piecesAfter invokePieces rejectPieces
-  after-id t e p z =
-      by-eq _ _ _ _ z (λ a z. by-eq _ _ _ _ z (λ b z. last-id _ _ _ _ z) (λ b z. last-id _ _ _ _ z))
-      (λ a z. by-eq _ _ _ _ z (λ b z. last-id _ _ _ _ z)
-      (λ b z. by-eq _ _ _ _ z (λ c z. by-eq _ _ _ _ z (λ d z. id-of z refl) (λ d z. id-of z refl)) (λ c z. result-id _ _ _ z)))
-
--- without one it is a reject, or at fault
-null-tag : (s : List ℕ) (x e b : ℕ) (r : Component) → r ≡ nullPieces s x e b → r .tag ≡ rejectTag
-unfolding nullPieces rejectPieces
-null-tag s x e b r z =
-    by-lt _ _ _ _ z (λ a z. tag z refl)
-    (λ a z. by-eq _ _ _ _ z
-    (λ c z. by-eq _ _ _ _ z (λ d z. by-eq _ _ _ _ z (λ f z. tag z refl) (λ f z. tag z refl)) (λ d z. tag z refl)) (λ c z. tag z refl))
-  where
-    tag : {c : Component} → r ≡ c → c .tag ≡ rejectTag → r .tag ≡ rejectTag
-    tag z e = ap (λ (c : Component). c .tag) z ∙ e
-
 module _ (r : Component) (sound : r .fault ≡ 3) (other : r .tag ≡ rejectTag → ⊥) where
   not-faulty : {A : Type 0} {t id p code x : ℕ} → code < 3 → r ≡ faulty t id p code x → A
   not-faulty h z = absurd (omega (arith, ap (λ (c : Component). c .fault) z))
@@ -72,9 +35,10 @@ module _ (r : Component) (sound : r .fault ≡ 3) (other : r .tag ≡ rejectTag 
   pieces-named : (s : List ℕ) (t x e b : ℕ) → r ≡ pieces s t x e b → r .id ≡ noID → ⊥
   unfolding pieces
   pieces-named s t x e b z n =
+      let i : ℕ = single s 2 e b in
       by-eq _ _ _ _ z
-      (λ a z. by-eq _ _ _ _ z (λ c z. other (null-tag s x e b r z)) (λ c z. not-faulty (omega arith) z))
-      (λ a z. a (sym (after-id s (single s 2 e b) x r t e (b + 3) z) ∙ n))
+      (λ a z. by-eq _ _ _ _ z (λ c z. other (ap (λ (c : Component). c .tag) z ∙ null-leaf x (λ (c : Component). c .tag ≡ rejectTag) (λ p. refl) (λ p code. refl) s e b)) (λ c z. not-faulty (omega arith) z))
+      (λ a z. a (sym (ap (λ (c : Component). c .id) z ∙ after-leaf i x (λ (c : Component). c .id ≡ i) (λ t l p a b. refl) (λ t p code. refl) s t e (b + 3)) ∙ n))
 
   component-named : (s : List ℕ) (lim at : ℕ) → r ≡ componentAt s lim at → r .id ≡ noID → ⊥
   unfolding componentAt framed

@@ -1,3 +1,5 @@
 pub mod Invocations
 pub mod Controls
+pub mod Leaves
 pub mod Acts
+pub mod Carried
