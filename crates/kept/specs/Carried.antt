@@ -1,13 +1,12 @@
 -- A SOUND COMPONENT IS THE SAME COMPONENT where its octets are copied k further, inside any limit that holds it. Assumes nothing.
-use mathlib.Core.Path.{_≡_, refl, sym, ap, subst, _∙_}
-use mathlib.Core.Bool.{Bool, true, false}
-use mathlib.Core.List.{List, [], _∷_}
-use Prim.Native.Nat.{ℕ, zero, suc, _+_, _*_, _-_, _≤_, _<_}
+use mathlib.Core.Path.{_≡_, refl, sym, ap, _∙_}
+use mathlib.Core.Bool.{true}
+use mathlib.Core.List.{List}
+use Prim.Native.Nat.{ℕ, _+_, _≤_, _<_}
 use native.Mathlib.Omega.{arith}
-use lib.Dec.{eqb, ltb}
 use lib.ListN.{getD}
 use borrow.Author.Tests.{eqb-true, eq-eqb}
-use Rattle.laws.specs.If.{ifLt, ifEq, ifB, eq, ne, lt, ge, yes, by-eq, by-lt, by-b}
+use Rattle.laws.specs.If.{ifEq, eq, ne, lt, ge, yes, by-eq, by-lt, by-b}
 use Rattle.paper.specs.declared.Length.{Length}
 use Rattle.paper.specs.declared.Length.the-variants.{Wrong, Given, Until}
 use Rattle.paper.specs.declared.Reading.{Reading}
@@ -211,18 +210,56 @@ module _ (s t : List ℕ) (k : ℕ) where
         (after-carry e (b + 3) (q + 3) (omega arith) (λ i l u. same i (omega arith) u) tag (single s 2 e b) h z
         ∙ ap (λ (i : ℕ). piecesAfter t tag i (k + x) (k + e) (q + 3)) w))
 
--- THE COMPONENT: only the octets of its frame are looked at
-module _ (s t : List ℕ) (k lim lim′ at q : ℕ) (eq-q : q ≡ k + at) (r : Component) (good : r .fault ≡ 3) (is : r ≡ componentAt s lim at) where
-  abbrev frame : Frame
-  frame = frameAt s 16 lim at
+-- THE COMPONENT: it ends where its frame does
+pub component-stop : (s : List ℕ) (lim at : ℕ) (r : Component) → r ≡ componentAt s lim at → r .stop ≡ frameAt s 16 lim at .stop
+unfolding componentAt framed
+component-stop s lim at r z =
+    by-eq _ _ _ _ z (λ a z. ap (λ (c : Component). c .stop) z ∙ sym a)
+    (λ a z. by-b _ _ _ z (λ b z. go (element s 16 lim at) z) (λ b z. ap (λ (c : Component). c .stop) z))
+  where
+    f : Frame
+    f = frameAt s 16 lim at
 
-  pub component-stop : r .stop ≡ frame .stop
-  unfolding componentAt framed
-  component-stop =
-      by-eq _ _ _ _ is (λ a z. ap (λ (c : Component). c .stop) z ∙ sym a)
-      (λ a z. by-b _ _ _ z (λ b z. go (element s 16 lim at) z) (λ b z. ap (λ (c : Component). c .stop) z))
-    where
-      go : (y : Reading) → r ≡ ifNested y (pieces s (tagAt s lim at) (frame .stop) (frame .to) (frame .from))
-          (faulty (tagAt s lim at) (single s 2 (frame .to) (frame .from)) (readProblem s (tagAt s lim at) (frame .to) (frame .from)) 2 (frame .stop)) → r .stop ≡ frame .stop
-      go (Ends y) z = ap (λ (c : Component). c .stop) z ∙ pieces-stop s (tagAt s lim at) (frame .stop) (frame .to) (frame .from)
-      go (Fault y) z = ap (λ (c : Component). c .stop) z
+    go : (y : Reading) → r ≡ ifNested y (pieces s (tagAt s lim at) (f .stop) (f .to) (f .from))
+        (faulty (tagAt s lim at) (single s 2 (f .to) (f .from)) (readProblem s (tagAt s lim at) (f .to) (f .from)) 2 (f .stop)) → r .stop ≡ f .stop
+    go (Ends y) z = ap (λ (c : Component). c .stop) z ∙ pieces-stop s (tagAt s lim at) (f .stop) (f .to) (f .from)
+    go (Fault y) z = ap (λ (c : Component). c .stop) z
+
+-- and only the octets up to there are looked at
+pub component-carry : (s t : List ℕ) (k lim lim′ at q : ℕ) → q ≡ k + at → (r : Component) → r ≡ componentAt s lim at → r .fault ≡ 3 → k + r .stop ≤ lim′ → Same s t k at (r .stop)
+    → further k r ≡ componentAt t lim′ q
+unfolding componentAt framed tagAt
+component-carry s t k lim lim′ at q eq-q r is good fits same =
+    by-eq _ _ _ _ is (λ a z. never s t k 0 r good (omega arith) z)
+    (λ a z. by-b _ _ _ z (λ known z. go a known (element s 16 lim at) refl z) (λ b z. never s t k (f .stop) r good (omega arith) z))
+  where
+    f : Frame
+    f = frameAt s 16 lim at
+
+    g : Frame
+    g = frameAt t 16 lim′ q
+
+    go : (f .stop ≡ 0 → ⊥) → knownTag (tagAt s lim at) ≡ true → (y : Reading) → y ≡ element s 16 lim at
+        → r ≡ ifNested y (pieces s (tagAt s lim at) (f .stop) (f .to) (f .from))
+        (faulty (tagAt s lim at) (single s 2 (f .to) (f .from)) (readProblem s (tagAt s lim at) (f .to) (f .from)) 2 (f .stop))
+        → further k r ≡ ifEq (g .stop) 0 (faulty (tagAt t lim′ q) noID noProblem 2 0) (framed t lim′ q (tagAt t lim′ q) g)
+    go a known (Fault y) i z = never s t k (f .stop) r good (omega arith) z
+    go a known (Ends y) i z =
+        let ends : r .stop ≡ f .stop = component-stop s lim at r is in
+        let w = frame-in s 16 lim at f refl in
+        let past = w .past (omega arith) in
+        let end : f .stop ≡ y = ends-frame s 16 lim at y i in
+        let m : ℕ = tagAt s lim at in
+        let fc : upFrame k f ≡ g = frame-carry s t k 16 16 lim lim′ at q (omega arith) f refl (omega arith) eq-q (omega arith) (λ i l u. same i l (omega arith)) in
+        let ec : Ends (k + y) ≡ element t 16 lim′ q = element-carry s t k 16 16 (omega arith) lim lim′ at q y i eq-q (omega arith) (λ i l u. same i l (omega arith)) in
+        let o : getD t q 0 ≡ getD s at 0 = octet s t k (r .stop) at at q same (omega arith) (omega arith) eq-q in
+        let here : getD s at 0 ≡ m = lt _ _ _ _ (omega arith) refl in
+        let there : getD t q 0 ≡ tagAt t lim′ q = lt _ _ _ _ (omega arith) refl in
+        let pc : further k r ≡ pieces t m (k + f .stop) (k + f .to) (k + f .from) =
+        pieces-carry s t k (f .stop) r good (f .to) (f .from) (k + f .from) refl (λ i l u. same i (omega arith) (omega arith)) (omega arith) m z in
+        ne _ _ _ _ (λ v. omega (arith, ap (λ (f : Frame). f .stop) fc))
+        (yes (knownTag m) _ _ known
+        (pc ∙ ap (λ (y : Reading). ifNested y (pieces t m (k + f .stop) (k + f .to) (k + f .from))
+        (faulty m (single t 2 (k + f .to) (k + f .from)) (readProblem t m (k + f .to) (k + f .from)) 2 (k + f .stop))) ec)
+        ∙ ap (λ (f : Frame). framed t lim′ q m f) fc
+        ∙ ap (λ (n : ℕ). framed t lim′ q n g) (sym here ∙ sym o ∙ there))
