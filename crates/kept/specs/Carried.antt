@@ -225,6 +225,11 @@ component-stop s lim at r z =
     go (Ends y) z = ap (λ (c : Component). c .stop) z ∙ pieces-stop s (tagAt s lim at) (f .stop) (f .to) (f .from)
     go (Fault y) z = ap (λ (c : Component). c .stop) z
 
+pub component-framed : (s : List ℕ) (lim at : ℕ) (r : Component) → r ≡ componentAt s lim at → r .fault ≡ 3 → 0 < r .stop
+unfolding componentAt
+component-framed s lim at r is good =
+    by-eq _ _ _ _ is (λ a z. absurd (omega (arith, ap (λ (c : Component). c .fault) z))) (λ a z. omega (arith, component-stop s lim at r is))
+
 -- and only the octets up to there are looked at
 pub component-carry : (s t : List ℕ) (k lim lim′ at q : ℕ) → q ≡ k + at → (r : Component) → r ≡ componentAt s lim at → r .fault ≡ 3 → k + r .stop ≤ lim′ → Same s t k at (r .stop)
     → further k r ≡ componentAt t lim′ q

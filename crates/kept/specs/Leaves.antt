@@ -63,4 +63,3 @@ pieces-stop s t x e b =
     whether-eq (λ (c : Component). c .stop ≡ x) _ _ _ _
     (whether-eq (λ (c : Component). c .stop ≡ x) _ _ _ _ (null-leaf x (λ (c : Component). c .stop ≡ x) (λ p. refl) (λ p code. refl) s e b) refl)
     (after-leaf (single s 2 e b) x (λ (c : Component). c .stop ≡ x) (λ t l p a b. refl) (λ t p code. refl) s t e (b + 3))
-

@@ -3,3 +3,4 @@ pub mod Controls
 pub mod Leaves
 pub mod Acts
 pub mod Carried
+pub mod Waiting
