@@ -4,3 +4,4 @@ pub mod Leaves
 pub mod Acts
 pub mod Carried
 pub mod Waiting
+pub mod Requests

@@ -82,7 +82,7 @@ module _ (s t : List ℕ) (k lim lim′ : ℕ) (fits : k + lim ≤ lim′) (same
       (after n m (nextStart lim c) (nextStart lim′ (componentAt t lim′ q)) (items-carry n) (omega arith) (omega arith) (omega arith) (omega arith) (g .1))
 
 -- waiting octets that are none, and some
-kept-none : (w : List ℕ) → length w ≡ 0 → waitingKept w ≡ true
+pub kept-none : (w : List ℕ) → length w ≡ 0 → waitingKept w ≡ true
 unfolding waitingKept
 kept-none w h = sym (eq _ _ _ _ h refl)
 
