@@ -5,3 +5,4 @@ pub mod Acts
 pub mod Carried
 pub mod Waiting
 pub mod Requests
+pub mod Shared
