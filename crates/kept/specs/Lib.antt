@@ -6,3 +6,4 @@ pub mod Carried
 pub mod Waiting
 pub mod Requests
 pub mod Shared
+pub mod Steps
