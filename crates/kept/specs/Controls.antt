@@ -1,25 +1,19 @@
 -- EACH CHANGE OF A CONTROL RECORD KEEPS THE RULES. Assumes nothing.
 use mathlib.Core.Path.{_≡_, refl, sym, ap, subst, _∙_}
 use mathlib.Core.Bool.{Bool, true, false}
-use mathlib.Core.List.{List, [], _∷_, map}
-use Prim.Native.Nat.{ℕ, zero, suc, _+_, _*_, _/_, _%_, _≤_, _<_}
+use mathlib.Core.List.{List}
+use Prim.Native.Nat.{ℕ, _+_, _≤_, _<_}
 use native.Mathlib.Omega.{arith}
 use lib.Dec.{eqb, ltb}
 use borrow.Author.Tests.{eqb-true, eqb-false, ltb-true, ltb-false}
-use lib.ListN.{length, getD, set, replicate, length-set, length-map, length-replicate, getD-replicate}
-use lib.Seq.{getD-set-same, getD-set-other, set-out}
-use Rattle.laws.specs.If.{ifLt, ifEq, ifB, eq, ne, lt, ge, by-eq, by-lt}
-use Rattle.laws.specs.Lists.{firstAt}
+use lib.ListN.{length, getD, set, length-set, length-map}
+use lib.Seq.{getD-set-same, getD-set-other}
 use Rattle.paper.specs.declared.Invocation.{Invocation}
 use Rattle.paper.specs.declared.Reject.{Reject}
 use Rattle.paper.specs.declared.Control.{Control}
-use Rattle.paper.specs.declared.Component.{Component}
-use Rattle.paper.specs.declared.Acted.{Acted}
-use Rattle.paper.specs.Problems.{senderOfProblem, byLayer, kindOf, noProblem}
-use Rattle.paper.specs.Components.{noID}
-use Rattle.paper.specs.Invocations.{noInvocation, slotOf, idleSlot, invocationOf, stateOf, withInvocations, withInvocation, inState, toState, toIdle, passed, notLastShown, allTransmitted, acted, withReject, rejected, takes, answerKind, answerProblem, answersSent, answers, invokes, released, rejectKind, rejects, faultyReject, isAnswer, faults, act}
-use Rattle.paper.specs.Dialogues.{noReject, withState, withoutRejects}
-use Rattle.facts.specs.Fine.{FineInvocation, FineInvocations, FineReject, FineRejects, FinePeer, FineControl}
+use Rattle.paper.specs.Invocations.{noInvocation, slotOf, idleSlot, invocationOf, stateOf, withInvocations, withInvocation, inState, toState, toIdle, passed, notLastShown, allTransmitted, withReject, rejects}
+use Rattle.paper.specs.Dialogues.{noReject}
+use Rattle.facts.specs.Fine.{FineInvocation, FineInvocations, FineReject, FineControl}
 use Rattle.kept.specs.Invocations.{idle-fine, same-id-fine, found-open, pass-fine, all-transmitted-fine}
 
 -- only the invocations changed

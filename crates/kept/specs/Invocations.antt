@@ -1,14 +1,14 @@
 -- EACH CHANGE OF AN INVOCATION KEEPS THE RULES (01, table rules: "invocations not in use are zero", "invoke IDs within a dialogue differ"). Assumes nothing.
 use mathlib.Core.Path.{_≡_, refl, sym, ap, subst, _∙_}
 use mathlib.Core.Bool.{Bool, true, false}
-use mathlib.Core.List.{List, [], _∷_, map}
-use Prim.Native.Nat.{ℕ, zero, suc, _+_, _≤_, _<_}
+use mathlib.Core.List.{List, map}
+use Prim.Native.Nat.{ℕ, _≤_, _<_}
 use native.Mathlib.Omega.{arith}
 use lib.Dec.{eqb, ltb}
-use borrow.Author.Tests.{eqb-true, eqb-false, ltb-true, ltb-false, eq-eqb, ne-eqb}
-use lib.ListN.{length, getD, set, drop, length-set, length-map, List·getD-map, List·getD-eq-default}
-use lib.Seq.{getD-set-same, getD-set-other, set-out}
-use Rattle.laws.specs.If.{ifEq, ifB, yes, no, eq, ne, was-eq, by-eq, true-false}
+use borrow.Author.Tests.{eqb-true, eqb-false, ltb-true, ltb-false, eq-eqb}
+use lib.ListN.{length, getD, set, length-set, length-map, List·getD-map}
+use lib.Seq.{getD-set-same, getD-set-other}
+use Rattle.laws.specs.If.{ifEq, eq, ne, by-eq, true-false}
 use Rattle.laws.specs.Lists.{firstAt, first-at, first-before}
 use Rattle.paper.specs.declared.Invocation.{Invocation}
 use Rattle.paper.specs.Invocations.{noInvocation, isOpen, isIdle, slotOf, idleSlot, invocationOf, inState, transmitted}

@@ -1,0 +1,255 @@
+-- WHAT A REQUEST OR TIMER DOES TO ITS DIALOGUE KEEPS THE RULES (01, "Dialogue states"). Assumes nothing.
+use mathlib.Core.Path.{_≡_, refl, sym, ap, subst, _∙_}
+use mathlib.Core.Bool.{Bool, true, false}
+use mathlib.Core.List.{List, [], _++_}
+use Prim.Native.Nat.{ℕ, _+_, _≤_, _<_}
+use native.Mathlib.Omega.{arith}
+use lib.ListN.{length, length-append}
+use Rattle.laws.specs.If.{ifEq, by-eq, was-ge, was-eq, was-yes, by-b, true-false}
+use Rattle.paper.specs.declared.Control.{Control}
+use Rattle.paper.specs.Problems.{kindOf}
+use Rattle.paper.specs.Components.{noID}
+use Rattle.paper.specs.Writing.{invokeOctets, resultOctets, errorOctets, rejectOctets}
+use Rattle.paper.specs.Invocations.{invocationOf, stateOf, toState, toIdle, passed, allTransmitted, mayReject}
+use Rattle.paper.specs.Dialogues.{Place, Request, Invoke, Result, Error, UserReject, Cancel, Begin, Continue, End, Prearranged, Abort, Unidirectional, Timeout, RejectTimeout, NoReaction, freed, begun, withControl, withState, withoutRejects, overfull, invokeRefusal, resultRefusal, errorRefusal, rejectRefusal, rejectedBy, afterSending, needsOpen, needsPeer, refusal, does}
+use Rattle.paper.specs.Rules.{hasPeer}
+use Rattle.readback.specs.Written.{Written, octetsOf, ResultTag, Allowed}
+use Rattle.facts.specs.Fine.{FinePeer, FineControl, FinePlace}
+use Rattle.facts.specs.Slots.{empty-fine}
+use Rattle.kept.specs.Controls.{passed-fine, to-state-fine, to-idle-fine, transmitted-fine}
+use Rattle.kept.specs.Acts.{Stays}
+use Rattle.kept.specs.Waiting.{kept-none, waiting-append, written-kept}
+
+-- A DIALOGUE THAT GOES ON, of the same service
+pub record GoesOn (x y : Place) : Type 0 where
+  pub fine : FinePlace y
+  pub state : y .control .state ≡ 0 → ⊥
+  pub service : y .control .service ≡ x .control .service
+
+-- "1 to 4 octets in Received and Active and none in Open and Sent"
+pub peers : (hasPeer 1 ≡ false) × (hasPeer 2 ≡ false) × (hasPeer 3 ≡ true) × (hasPeer 4 ≡ true)
+unfolding hasPeer ifEq
+peers = (refl, refl, refl, refl)
+
+-- NEW CONTROL RECORDS: in another state with a peer as before, without rejects, begun
+pub with-state-fine : (c : Control) → FineControl c → (state : ℕ) → state < 5 → hasPeer state ≡ hasPeer (c .state) → FineControl (withState c state)
+with-state-fine c f state h e = record {
+  turn = f .turn;
+  state = h;
+  service = f .service;
+  four = f .four;
+  peer = record { some = λ z. f .peer .some (sym e ∙ z); none = λ z. f .peer .none (sym e ∙ z); most = f .peer .most; rest = f .peer .rest };
+  count = f .count;
+  eight = f .eight;
+  invocations = f .invocations;
+  eights = f .eights;
+  rejects = f .rejects;
+}
+
+pub without-rejects-fine : (c : Control) → FineControl c → FineControl (withoutRejects c)
+without-rejects-fine c f = record {
+  turn = f .turn;
+  state = f .state;
+  service = f .service;
+  four = f .four;
+  peer = record { some = f .peer .some; none = f .peer .none; most = f .peer .most; rest = f .peer .rest };
+  count = omega arith;
+  eight = f .eight;
+  invocations = f .invocations;
+  eights = refl;
+  rejects = empty-fine 0 (omega arith) .control .rejects;
+}
+
+pub begun-fine : (turn state service peerlen : ℕ) (peer : List ℕ) → turn < 16777216 → state < 5 → service < 16 → length peer ≡ 4
+    → FinePeer (begun turn state service peerlen peer) → FineControl (begun turn state service peerlen peer)
+begun-fine turn state service peerlen peer a b c d e =
+    let f = empty-fine 0 (omega arith) .control in
+    record {
+      turn = a;
+      state = b;
+      service = c;
+      four = d;
+      peer = e;
+      count = omega arith;
+      eight = refl;
+      invocations = f .invocations;
+      eights = refl;
+      rejects = f .rejects;
+    }
+
+-- a place with a dialogue and no waiting octets is fine where its control record is
+pub place-fine : (c : Control) → FineControl c → (c .state ≡ 0 → ⊥) → FinePlace (record { control = c; waiting = [] })
+place-fine c f n = record { control = f; room = omega arith; whole = kept-none [] refl; free = λ e. absurd (n e) }
+
+module _ (x : Place) (f : FinePlace x) (used : x .control .state ≡ 0 → ⊥) where
+  -- ITS CONTROL RECORD CHANGED
+  pub control-goes-on : (c : Control) → Stays (x .control) c → GoesOn x (withControl x c)
+  control-goes-on c s = record {
+    fine = record { control = s .fine; room = f .room; whole = f .whole; free = λ e. absurd (used (sym (s .state) ∙ e)) };
+    state = λ e. used (sym (s .state) ∙ e);
+    service = s .service;
+  }
+
+  -- A COMPONENT PASSED
+  fits : (l : List ℕ) → overfull x l ≡ 0 → length (x .waiting) + length l ≤ 240
+  unfolding overfull
+  fits l e = was-ge _ _ _ _ (sym e) (λ z. omega arith) .0
+
+  pass-goes-on : (c : Control) → Stays (x .control) c → (w : Written) → Allowed w → overfull x (octetsOf w) ≡ 0
+      → GoesOn x (record { control = c; waiting = x .waiting ++ octetsOf w })
+  pass-goes-on c s w a e =
+      let n = fits (octetsOf w) e in
+      record {
+        fine = record {
+          control = s .fine;
+          room = omega (arith, length-append (x .waiting) (octetsOf w));
+          whole = waiting-append (x .waiting) (octetsOf w) (f .whole) (written-kept w a (omega arith));
+          free = λ e. absurd (used (sym (s .state) ∙ e));
+        };
+        state = λ e. used (sym (s .state) ∙ e);
+        service = s .service;
+      }
+
+  same : Stays (x .control) (x .control)
+  same = record { fine = f .control; state = refl; service = refl }
+
+  idle-goes-on : (id : ℕ) → GoesOn x (withControl x (toIdle (x .control) id))
+  unfolding toIdle
+  idle-goes-on id = control-goes-on (toIdle (x .control) id) (record { fine = to-idle-fine (x .control) (f .control) id; state = refl; service = refl })
+
+  invoke-goes-on : (id linked class : ℕ) (op par : List ℕ) → id < 256 → linked ≤ noID → invokeRefusal x id linked class op par ≡ 0
+      → GoesOn x (record { control = passed (x .control) id class; waiting = x .waiting ++ invokeOctets id linked op par })
+  unfolding invokeRefusal passed octetsOf
+  invoke-goes-on id linked class op par h g e =
+      let a = was-ge _ _ _ _ (sym e) (λ z. omega arith) in
+      let b = was-ge _ _ _ _ (a .1) (λ z. omega arith) in
+      let c = was-eq _ _ _ _ (b .1) (λ z. omega arith) in
+      by-eq _ _ _ _ (c .1) (λ z w. absurd (omega arith))
+      (λ z w.
+      let k = was-yes _ _ _ w (λ z. omega arith) in
+      let p = was-yes _ _ _ (k .1) (λ z. omega arith) in
+      pass-goes-on (passed (x .control) id class) (record { fine = passed-fine (x .control) (f .control) id class (c .0) (a .0) (b .0); state = refl; service = refl })
+      (Written.Invoke id linked op par) (h, g, k .0, p .0) (sym (p .1)))
+
+  result-goes-on : (tag id : ℕ) (op par : List ℕ) → ResultTag tag → id < 256 → resultRefusal x tag id op par ≡ 0
+      → GoesOn x (record { control = x .control; waiting = x .waiting ++ resultOctets tag id op par })
+  unfolding resultRefusal octetsOf
+  result-goes-on tag id op par t h e =
+      by-eq _ _ _ _ (sym e) (λ z w. absurd (omega arith))
+      (λ z w. let k = was-yes _ _ _ w (λ z. omega arith) in pass-goes-on (x .control) same (Written.Result tag id op par) (t, h, k .0) (sym (k .1)))
+
+  error-goes-on : (id : ℕ) (err par : List ℕ) → id < 256 → errorRefusal x id err par ≡ 0
+      → GoesOn x (record { control = x .control; waiting = x .waiting ++ errorOctets id err par })
+  unfolding errorRefusal octetsOf
+  error-goes-on id err par h e =
+      by-eq _ _ _ _ (sym e) (λ z w. absurd (omega arith))
+      (λ z w.
+      let k = was-yes _ _ _ w (λ z. omega arith) in
+      let p = was-yes _ _ _ (k .1) (λ z. omega arith) in
+      pass-goes-on (x .control) same (Written.Error id err par) (h, k .0, p .0) (sym (p .1)))
+
+  -- one that may be rejected is in use, but an invoke's reject needs none
+  may-used : (id kind : ℕ) → (kind ≡ 1 → ⊥) → mayReject kind (invocationOf (x .control .invocations) id) ≡ true → stateOf (x .control) id ≡ 0 → ⊥
+  unfolding mayReject
+  may-used id kind n e z =
+      by-eq _ _ _ _ (sym e) (λ a w. n a)
+      (λ a w. by-eq _ _ _ _ w (λ b w. omega arith)
+      (λ b w. by-eq _ _ _ _ w (λ c w. let d = was-eq _ _ _ _ w true-false in omega arith) (λ c w. true-false w)))
+
+  rejected-by-stays : (id p : ℕ) → mayReject (kindOf p) (invocationOf (x .control .invocations) id) ≡ true → Stays (x .control) (rejectedBy (x .control) id p)
+  unfolding rejectedBy toState
+  rejected-by-stays id p e =
+      by-eq {r = rejectedBy (x .control) id p} _ _ _ _ refl (λ a z. subst (Stays (x .control)) (sym z) same)
+      (λ a z. subst (Stays (x .control)) (sym z)
+      (record { fine = to-state-fine (x .control) (f .control) id 4 (may-used id (kindOf p) a e) (omega arith) (omega arith); state = refl; service = refl }))
+
+  reject-goes-on : (id p : ℕ) → id ≤ noID → rejectRefusal x id p ≡ 0
+      → GoesOn x (record { control = rejectedBy (x .control) id p; waiting = x .waiting ++ rejectOctets id p })
+  unfolding rejectRefusal octetsOf
+  reject-goes-on id p h e =
+      by-eq _ _ _ _ (sym e) (λ z w. absurd (omega arith))
+      (λ z w.
+      let s = was-eq _ _ _ _ w (λ z. omega arith) in
+      let k = was-yes _ _ _ (s .1) (λ z. omega arith) in
+      pass-goes-on (rejectedBy (x .control) id p) (rejected-by-stays id p (k .0)) (Written.Reject id p) (h, λ z. omega (arith, s .0)) (sym (k .1)))
+
+  -- A SENDING, to a state with a peer as before
+  sent-goes-on : (state : ℕ) → 0 < state → state < 5 → hasPeer state ≡ hasPeer (x .control .state) → GoesOn x (afterSending x state)
+  unfolding afterSending allTransmitted
+  sent-goes-on state a b e =
+      let c : Control = allTransmitted (withState (x .control) state) in
+      let g : FineControl c = transmitted-fine (withState (x .control) state) (with-state-fine (x .control) (f .control) state b e) in
+      by-b {r = afterSending x state .control} _ _ _ refl
+      (λ h z. left (withoutRejects c) z (without-rejects-fine c g) a refl) (λ h z. left c z g a refl)
+    where
+      left : (c : Control) → afterSending x state .control ≡ c → FineControl c → 0 < c .state → c .service ≡ x .control .service → GoesOn x (afterSending x state)
+      left c z g a s = subst (λ (d : Control). GoesOn x (record { control = d; waiting = [] })) (sym z)
+          (record { fine = place-fine c g (λ e. omega arith); state = λ e. omega arith; service = s })
+
+  begin-goes-on : needsOpen x ≡ 0 → GoesOn x (afterSending x 2)
+  unfolding needsOpen
+  begin-goes-on e =
+      let a = was-eq _ _ _ _ (sym e) (λ z. omega arith) in
+      sent-goes-on 2 (omega arith) (omega arith) (peers .1 ∙ sym (ap hasPeer (a .0) ∙ peers .0))
+
+  continue-goes-on : needsPeer x ≡ 0 → GoesOn x (afterSending x 4)
+  unfolding needsPeer
+  continue-goes-on e =
+      by-eq _ _ _ _ (sym e) (λ a z. sent-goes-on 4 (omega arith) (omega arith) (peers .3 ∙ sym (ap hasPeer a ∙ peers .2)))
+      (λ a z. let b = was-eq _ _ _ _ z (λ z. omega arith) in sent-goes-on 4 (omega arith) (omega arith) (sym (ap hasPeer (b .0))))
+
+-- A REQUEST AS A CALLER CAN MAKE IT: IDs are octets, a linked one 256 for none, a result's tag is A2 or A7
+abbrev pub Formed : Request → Type 0
+Formed (Invoke id linked class op par) = (id < 256) × (linked ≤ noID)
+Formed (Result tag id op par) = ResultTag tag × (id < 256)
+Formed (Error id err par) = id < 256
+Formed (UserReject id p) = id < 256
+Formed (Cancel id) = Unit
+Formed Begin = Unit
+Formed Continue = Unit
+Formed End = Unit
+Formed Prearranged = Unit
+Formed (Abort portion) = Unit
+Formed Unidirectional = Unit
+Formed (Timeout id) = Unit
+Formed (RejectTimeout id) = Unit
+Formed NoReaction = Unit
+
+-- those that free the place
+abbrev pub frees : Request → Bool
+frees (Invoke id linked class op par) = false
+frees (Result tag id op par) = false
+frees (Error id err par) = false
+frees (UserReject id p) = false
+frees (Cancel id) = false
+frees Begin = false
+frees Continue = false
+frees End = true
+frees Prearranged = true
+frees (Abort portion) = true
+frees Unidirectional = true
+frees (Timeout id) = false
+frees (RejectTimeout id) = false
+frees NoReaction = true
+
+-- what one leaves: a freed place, or the dialogue
+abbrev pub Leaves : Bool → Place → Place → Type 0
+Leaves true x y = y ≡ freed x
+Leaves false x y = GoesOn x y
+
+pub does-kept : (x : Place) → FinePlace x → (x .control .state ≡ 0 → ⊥) → (me : ℕ) (r : Request) → Formed r → refusal x r ≡ 0 → Leaves (frees r) x (does me x r .place)
+unfolding does refusal
+does-kept x f u me (Invoke id linked class op par) w e = invoke-goes-on x f u id linked class op par (w .0) (w .1) e
+does-kept x f u me (Result tag id op par) w e = result-goes-on x f u tag id op par (w .0) (w .1) e
+does-kept x f u me (Error id err par) w e = error-goes-on x f u id err par w e
+does-kept x f u me (UserReject id p) w e = reject-goes-on x f u id p (omega arith) e
+does-kept x f u me (Cancel id) w e = idle-goes-on x f u id
+does-kept x f u me Begin w e = begin-goes-on x f u e
+does-kept x f u me Continue w e = continue-goes-on x f u e
+does-kept x f u me End w e = refl
+does-kept x f u me Prearranged w e = refl
+does-kept x f u me (Abort portion) w e = refl
+does-kept x f u me Unidirectional w e = refl
+does-kept x f u me (Timeout id) w e = idle-goes-on x f u id
+does-kept x f u me (RejectTimeout id) w e = idle-goes-on x f u id
+does-kept x f u me NoReaction w e = refl
