@@ -2,22 +2,25 @@
 use mathlib.Core.Path.{_≡_, refl, sym, ap, subst, _∙_}
 use mathlib.Core.Bool.{Bool, true, false}
 use mathlib.Core.List.{List, [], _∷_}
-use mathlib.Core.Logic.{_⊎_, inl, inr}
+use mathlib.Core.Logic.{_⊎_, inl, inr, _↔_}
 use Prim.Native.Nat.{ℕ, zero, suc, _+_, _-_, _≤_, _<_}
 use native.Mathlib.Omega.{arith}
 use lib.ListN.{length, getD}
 use Rattle.laws.specs.If.{ifLt, ifEq, ifB, lt, eq, ge, yes, no}
 use Rattle.paper.specs.Sizes.{placesInAll, services}
 use Rattle.paper.specs.Shares.{gives, others, free, sharesFit}
-use Rattle.paper.specs.Calls.{Table, Call, Out, guaranteeOf, limitOf, held, mayBegin, opened, openedAt, lowestFree, refuse, step, freshTable}
+use Rattle.paper.specs.Calls.{Table, Call, Out, guaranteeOf, limitOf, held, mayBegin, opened, openedAt, lowestFree, refuse, shows, octetsAt, beginAt, step, freshTable}
+use Rattle.paper.specs.Messages.{messageOf, isSound, beginTag}
+use Rattle.paper.specs.Writing.{causeAbortOctets}
 use Rattle.paper.specs.Calls.Call.{Open, OnDialogue, Receive}
 use Rattle.paper.specs.Layout.{encode, view}
-use Rattle.paper.specs.Outcome.{Lent, Outcome, standing, shown, outcome, noSpace}
+use Rattle.paper.specs.Outcome.{Lent, Outcome, standing, given, shown, outcome, noSpace}
 use Rattle.facts.specs.Fine.{Fine}
 use Rattle.facts.specs.Whole.{view-encode}
 use Rattle.facts.specs.Ready.{encode-stands}
 use Rattle.shares.specs.Share.{Shares, Sound, below-given, refused-at-limit, refused-full, refused-why}
 use Rattle.demands.specs.Steps.{table-shares, table-sound}
+use Rattle.demands.specs.Begins.{begin-step}
 use Rattle.demands.specs.Shares.{fresh-fine, fresh-held}
 use Rattle.demands.specs.History.{Made, gave, after, begunOf, endedOf, AllOctets, CallOctets, Reached, history}
 
@@ -49,6 +52,19 @@ open-answer T f s h =
       where
         ne-seven : (x y : Outcome) → y ≡ ifEq 7 0 x y
         ne-seven x y = Rattle.laws.specs.If.ne 7 0 x y (λ h. omega arith) refl
+
+-- a received message, with spaces of the right sizes, gives what its step gives
+received : (T : Table) → Fine T → (s : ℕ) (msg rows space : List ℕ) → 4096 ≤ length rows → 272 ≤ length space
+    → gave (encode T) (record { call = Receive s msg; rows = rows; space = space })
+    ≡ shown 0 (record { table = encode T; rows = rows; space = space }) (step T (Receive s msg))
+unfolding outcome standing
+received T f s msg rows space a b =
+    ap (λ (n : ℕ). shown n l (step (view (encode T)) (Receive s msg)))
+    (sym (eq _ _ _ _ (encode-stands T f .0) (ge _ _ _ _ a (ge _ _ _ _ b (yes _ _ _ (encode-stands T f .1) refl)))))
+    ∙ ap (λ (U : Table). shown 0 l (step U (Receive s msg))) (view-encode T f)
+  where
+    l : Lent
+    l = record { table = encode T; rows = rows; space = space }
 
 -- THE STEP KEEPS THE RULES is taken as `kept`; a fresh table with sound shares; any list of calls that hands the table on unaltered
 module _ (kept : (T : Table) → Fine T → (c : Call) → CallOctets c → Fine (step T c .table)) (g l : List ℕ) (a : length g ≡ 16) (b : length l ≡ 16)
@@ -137,3 +153,46 @@ module _ (kept : (T : Table) → Fine T → (c : Call) → CallOctets c → Fine
           → (dialogues s ≡ limit s) ⊎ (free placesInAll services dialogues ≡ others services guarantee dialogues s)
       go true z = let w : _≡_ {A = ℕ} 7 0 = sym e ∙ answered s h ∙ sym (yes _ _ _ z refl) in absurd (omega arith)
       go false z = refused-why placesInAll services guarantee limit dialogues s q z
+
+  -- THE SAME FOR A PARTNER'S BEGIN: any sound one, of 1 to 512 octets, with spaces of the right sizes
+  module _ (s : ℕ) (h : s < services) (msg rows space : List ℕ) (wide : 4096 ≤ length rows) (long : 272 ≤ length space) (some : 0 < length msg) (few : length msg ≤ 512)
+      (fine : messageOf msg .fault ≡ isSound) (begin : messageOf msg .tag ≡ beginTag) where
+    abbrev begins : Made
+    begins = record { call = Receive s msg; rows = rows; space = space }
+
+    abbrev lent : Lent
+    lent = record { table = encode (reached .to); rows = rows; space = space }
+
+    begin-is : (o : Out) → step (reached .to) (Receive s msg) ≡ o → o .answer ≡ 0 → gave (after start ms) begins ≡ given lent o
+    begin-is o e z =
+        ap (λ (t : List ℕ). gave t begins) (reached .table) ∙ received (reached .to) (reached .fine) s msg rows space wide long
+        ∙ ap (shown 0 lent) e ∙ sym (eq _ _ _ _ z refl)
+
+    by-rule : (b : Bool) → gives placesInAll services guarantee limit dialogues s ≡ b
+        → step (reached .to) (Receive s msg) ≡ ifB b (beginAt (reached .to) s (lowestFree (reached .to)) msg (messageOf msg)) (shows [] (causeAbortOctets (octetsAt msg (messageOf msg .origin)) 4) (reached .to))
+    by-rule b e =
+        begin-step (reached .to) s msg h some few fine begin
+        ∙ ap (λ (x : Bool). ifB x (beginAt (reached .to) s (lowestFree (reached .to)) msg (messageOf msg)) (shows [] (causeAbortOctets (octetsAt msg (messageOf msg .origin)) 4) (reached .to))) (rule s ∙ e)
+
+    -- where the rule gives, the dialogue begins: the outcome is that of a Begin with a place, whose first row is BEGIN
+    pub begin-given : gives placesInAll services guarantee limit dialogues s ≡ true
+        → gave (after start ms) begins ≡ given lent (beginAt (reached .to) s (lowestFree (reached .to)) msg (messageOf msg))
+    unfolding beginAt
+    begin-given e = begin-is _ (by-rule true e ∙ sym (yes true _ _ refl refl)) refl
+
+    -- else it is refused with cause 4: no row, an Abort to its originating ID, the table as it was
+    pub begin-refused : gives placesInAll services guarantee limit dialogues s ≡ false
+        → gave (after start ms) begins ≡ given lent (shows [] (causeAbortOctets (octetsAt msg (messageOf msg .origin)) 4) (reached .to))
+    begin-refused e = begin-is _ (by-rule false e ∙ sym (no false _ _ refl refl)) refl
+
+    -- below its guarantee never; at or above it exactly as an open
+    pub begin-never-refused : dialogues s < guarantee s → gave (after start ms) begins ≡ given lent (beginAt (reached .to) s (lowestFree (reached .to)) msg (messageOf msg))
+    begin-never-refused q = begin-given (below-given placesInAll services guarantee limit dialogues s q)
+
+    pub begin-refused-exactly : guarantee s ≤ dialogues s
+        → (gives placesInAll services guarantee limit dialogues s ≡ false) ↔ ((dialogues s ≡ limit s) ⊎ (free placesInAll services dialogues ≡ others services guarantee dialogues s))
+    begin-refused-exactly q = (refused-why placesInAll services guarantee limit dialogues s q, back)
+      where
+        back : (dialogues s ≡ limit s) ⊎ (free placesInAll services dialogues ≡ others services guarantee dialogues s) → gives placesInAll services guarantee limit dialogues s ≡ false
+        back (inl e) = refused-at-limit placesInAll services guarantee limit dialogues s q e
+        back (inr e) = refused-full placesInAll services guarantee limit dialogues s q e

@@ -5,4 +5,5 @@ pub mod Rows
 pub mod Fits
 pub mod Shares
 pub mod History
+pub mod Begins
 pub mod Demands
