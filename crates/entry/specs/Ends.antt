@@ -1,7 +1,7 @@
 -- THE END OF A CALL: from what a request is refused by, or does, to the call's outcome. Assumes nothing.
 use mathlib.Core.Path.{_≡_, refl, sym, ap, subst, _∙_}
 use mathlib.Core.Bool.{Bool, true, false}
-use mathlib.Core.List.{List, [], _∷_}
+use mathlib.Core.List.{List, [], _∷_, append-nil}
 use Prim.Native.Nat.{ℕ, zero, suc, _<_, _≤_}
 use native.Mathlib.Omega.{arith}
 use lib.ListN.{length}
@@ -9,7 +9,7 @@ use lib.Seq.{sets}
 use Rattle.laws.specs.If.{ifLt, ifEq, ifB, lt, ge, eq, yes, no, by-lt, by-eq, by-b, was-ge}
 use Rattle.paper.specs.declared.Row.{Row}
 use Rattle.paper.specs.Sizes.{placeOf}
-use Rattle.paper.specs.Rows.{rowsOctets}
+use Rattle.paper.specs.Rows.{rowOctets, rowsOctets}
 use Rattle.paper.specs.Dialogues.{Place, Request, Done, done, refusal, does, request, refused, unlessRefused}
 use Rattle.paper.specs.Calls.{Call, Out, Table, placeAt, withPlace, owns, refuse, stored, requested, opened, step}
 use Rattle.paper.specs.Calls.Call.{Open, OnDialogue}
@@ -23,6 +23,15 @@ use Rattle.entry.specs.Prologue.{entryOf, entryAt, InService, InDialogue
 -- the spaces that the call takes are long enough
 abbrev pub Long : Lent → Call → Type 0
 Long l c = (spacesFor c .rows ≤ length (l .rows)) × (spacesFor c .space ≤ length (l .space))
+
+-- ---- rows written from the first on
+pub no-rows : (l : List ℕ) → l ≡ sets l 0 (rowsOctets [])
+unfolding rowsOctets
+no-rows l = refl
+
+pub one-row : (l : List ℕ) (r : Row) → sets l 0 (rowOctets r) ≡ sets l 0 (rowsOctets (r ∷ []))
+unfolding rowsOctets
+one-row l r = ap (sets l 0) (sym (append-nil (rowOctets r)))
 
 -- ---- TOO SHORT A SPACE
 pub rows-short : (l : Lent) (c : Call) → length (l .rows) < spacesFor c .rows → {r : Reply} → r ≡ reply 1 0 0 0 → Told (outcome l c) r l
@@ -133,6 +142,8 @@ module _ (l : Lent) (s d : ℕ) (q : Request) (long : Long l (OnDialogue s d q))
         by-step l c stood o (did (done y rs ms) (not-refused d (placeAt T p) q e ∙ w)) refl f
         (lent-same m (given l o .lent) (a ∙ ap encode (eq _ _ _ _ refl refl)) b g)
 
-pub no-rows : (l : List ℕ) → l ≡ sets l 0 (rowsOctets [])
-unfolding rowsOctets
-no-rows l = refl
+    -- done, with neither row nor message
+    pub dialogue-changed : (y : Place) → 0 ≡ refusal (placeAt (view (l .table)) p) q → does d (placeAt (view (l .table)) p) q ≡ done y [] []
+        → {r : Reply} {u : List ℕ} → r ≡ reply 0 0 0 0 → u ≡ encode (withPlace (view (l .table)) p y)
+        → Told (outcome l (OnDialogue s d q)) r (record { table = u; rows = l .rows; space = l .space })
+    dialogue-changed y e w f a = dialogue-done y [] [] e w f a (no-rows (l .rows)) refl

@@ -35,16 +35,20 @@ pub record InService (t : List ℕ) (s : ℕ) : Type 0 where
   -- where the share rule gives a place, the lowest free one is there
   pub there : mayBegin (view t) s ≡ true → (lowestFree (view t) < 128) × (flag (placeAt (view t) (lowestFree (view t))) ≡ 1)
 
-pub record InDialogue (t : List ℕ) (s d p : ℕ) : Type 0 where
+-- place p of a table that keeps the rules has a dialogue
+pub record Used (t : List ℕ) (p : ℕ) : Type 0 where
   pub ready : Ready t
+  pub small : p < 128
+  pub told : flag (placeAt (view t) p) ≡ 0
+  pub state : placeAt (view t) p .control .state ≡ 0 → ⊥
+  pub fine : FinePlace (placeAt (view t) p)
+
+pub record InDialogue (t : List ℕ) (s d p : ℕ) : Type 0 where
   pub stands : 0 ≡ tableAnswer t
   pub service : s < 16
   pub owner : owns (view t) s d ≡ true
   pub place : p ≡ placeOf d
-  pub small : p < 128
-  pub used : flag (placeAt (view t) p) ≡ 0
-  pub state : placeAt (view t) p .control .state ≡ 0 → ⊥
-  pub fine : FinePlace (placeAt (view t) p)
+  pub used : Used t p
 
 -- what the two prologues tell: the number, and whether the share rule gives a place; the number and the place
 pub record Enters (t : List ℕ) (s answer : ℕ) (given : Bool) : Type 0 where
@@ -108,14 +112,17 @@ module _ (t : List ℕ) (s d : ℕ) where
           inside =
               λ q.
               record {
-                ready = j .ready;
                 stands = j .stands;
                 service = j .service;
                 owner = sym w;
                 place = e;
-                small = omega (arith, e, o .small);
-                used = ap (λ (k : ℕ). flag (placeAt (view t) k)) e ∙ o .used;
-                state = subst (λ (k : ℕ). placeAt (view t) k .control .state ≡ 0 → ⊥) (sym e) (o .state);
-                fine = j .ready .fine .each p (omega (arith, e, o .small));
+                used =
+                    record {
+                      ready = j .ready;
+                      small = omega (arith, e, o .small);
+                      told = ap (λ (k : ℕ). flag (placeAt (view t) k)) e ∙ o .used;
+                      state = subst (λ (k : ℕ). placeAt (view t) k .control .state ≡ 0 → ⊥) (sym e) (o .state);
+                      fine = j .ready .fine .each p (omega (arith, e, o .small));
+                    };
               };
         }
