@@ -239,7 +239,7 @@ fn put(t: &mut [u8], at: usize, octets: &[u8])
     }
 }
 
-fn clear(s: &mut [u8])
+pub fn clear(s: &mut [u8])
     ensures { λ r. ⌜ now (s .exit) ≡ replicate (length (now (s .entry))) 0 ⌝ }
 {
     let mut i: usize = 0;

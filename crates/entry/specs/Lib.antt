@@ -1,0 +1,4 @@
+pub mod Octet
+pub mod Replies
+pub mod Prologue
+pub mod Ends
