@@ -1,0 +1,21 @@
+use mathlib.Core.Path.{ap}
+use Rattle.paper.specs.declared.Run.{Run}
+use borrow.Author.Needs.{needs}
+use Rattle.host.proofs.tcap_parameter.Statement.{statement}
+use Rattle.host.proofs.tcap_parameter.Tie as tie
+use Rattle.host.proofs.tcap_parameter.Reads as reads
+use Rattle.host.proofs.tcap_parameter.Lts as lts
+use Rattle.parameter.proofs.parameter_at.Reads as parameter-at-reads
+
+-- src/lib.rt:45:9
+parameter-at-requires : tie.Need-parameter-at-requires
+parameter-at-requires c κs = search needs
+
+-- src/lib.rt:40:1
+returns : tie.Need-returns
+returns c =
+    let p = c .parameter-at .ensures in
+    ((ap (λ (r : Run). r .start) (p .0), ap (λ (r : Run). r .length) (p .0)), p .1)
+
+pub tcap-parameter-spec : {M : Type 1} → statement M
+tcap-parameter-spec = tie.close (tie.spec parameter-at-requires returns)
