@@ -5,5 +5,6 @@ pub mod Acts
 pub mod Carried
 pub mod Waiting
 pub mod Requests
+pub mod Counted
 pub mod Shared
 pub mod Steps
