@@ -8,3 +8,4 @@ pub mod Requests
 pub mod Counted
 pub mod Shared
 pub mod Steps
+pub mod Histories

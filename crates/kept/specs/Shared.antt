@@ -20,7 +20,7 @@ use Rattle.facts.specs.Changes.{freed-fine, held-set, of-used, held-same, of-sa
 use Rattle.kept.specs.Requests.{GoesOn}
 
 -- what a place counts
-of-free : (x : Place) (s : ℕ) → x .control .state ≡ 0 → isOf s x ≡ 0
+pub of-free : (x : Place) (s : ℕ) → x .control .state ≡ 0 → isOf s x ≡ 0
 unfolding isOf isFree
 of-free x s e = sym (yes _ _ _ (eq-eqb (x .control .state) 0 e) refl)
 
@@ -60,14 +60,17 @@ module _ (T : Table) (f : Fine T) (p : ℕ) (h : p < 128) (x : Place) (s : ℕ) 
       held-but (now s - 1) (omega (arith, set-there s, of-free x s b, of-own (placeAt T p) s a e))
       (λ k n. of-free x k b ∙ sym (of-other (placeAt T p) k a (λ w. n (sym w ∙ e))))
 
--- A TABLE THAT ONE CALL OF A SERVICE LEFT: fine; what was begun (b) and ended (e) of that service is what it holds more or less
+-- A TABLE THAT ONE CALL OF A SERVICE LEFT: fine, with the same shares; what was begun (b) and ended (e) of that service is what it
+-- holds more or less
 pub record Moved (T : Table) (s b e : ℕ) (U : Table) : Type 0 where
   pub fine : Fine U
+  pub guarantees : U .guarantees ≡ T .guarantees
+  pub limits : U .limits ≡ T .limits
   pub own : b + held (T .places) s ≡ e + held (U .places) s
   pub others : (k : ℕ) → (k ≡ s → ⊥) → held (U .places) k ≡ held (T .places) k
 
 pub moved-as : {T U : Table} {s b e c d : ℕ} → Moved T s b e U → c ≡ b → d ≡ e → Moved T s c d U
-moved-as m p q = record { fine = m .fine; own = omega (arith, m .own); others = m .others }
+moved-as m p q = record { fine = m .fine; guarantees = m .guarantees; limits = m .limits; own = omega (arith, m .own); others = m .others }
 
 -- THE COUNTS of a fine table are sound, and a table with sound ones keeps the shares
 module _ (T : Table) (f : Fine T) where
@@ -100,7 +103,7 @@ module _ (T : Table) (f : Fine T) where
 
   -- NOTHING CHANGED
   pub not-moved : (s : ℕ) → Moved T s 0 0 T
-  not-moved s = record { fine = f; own = refl; others = λ k n. refl }
+  not-moved s = record { fine = f; guarantees = refl; limits = refl; own = refl; others = λ k n. refl }
 
   -- FREED, by the service that has it
   pub moved-freed : (p s : ℕ) → p < 128 → (placeAt T p .control .state ≡ 0 → ⊥) → placeAt T p .control .service ≡ s
@@ -114,6 +117,8 @@ module _ (T : Table) (f : Fine T) where
         fine = fine-with T f p h (freed x) (freed-fine x)
             (kept-by p (freed x) (but c s (c s - 1)) after
             (release-sound 128 16 (guaranteeOf T) (limitOf T) c shares sound s (subst (λ (k : ℕ). k < 16) e (f .each p h .control .service)) some));
+        guarantees = refl;
+        limits = refl;
         own = omega (arith, ap (λ (g : ℕ → ℕ). g s) after, but-same c s (c s - 1));
         others = λ k m. ap (λ (g : ℕ → ℕ). g k) after ∙ but-other c s (c s - 1) k m;
       }
@@ -125,6 +130,8 @@ module _ (T : Table) (f : Fine T) where
       held-same (T .places) p y (omega (arith, f .places)) (of-same y (placeAt T p) (g .state) n (g .service)) in
       record {
         fine = fine-stays T f p h y (g .fine) n (g .state) (g .service);
+        guarantees = refl;
+        limits = refl;
         own = omega (arith, ap (λ (g : ℕ → ℕ). g s) same);
         others = λ k m. ap (λ (g : ℕ → ℕ). g k) same;
       }
@@ -147,6 +154,8 @@ module _ (T : Table) (f : Fine T) where
         record {
           fine = fine-with T f p h x g
               (kept-by p x (but c s (suc (c s))) after (take-sound 128 16 (guaranteeOf T) (limitOf T) c shares sound s s< given));
+          guarantees = refl;
+          limits = refl;
           own = omega (arith, ap (λ (g : ℕ → ℕ). g s) after, but-same c s (suc (c s)));
           others = λ k m. ap (λ (g : ℕ → ℕ). g k) after ∙ but-other c s (suc (c s)) k m;
         }
