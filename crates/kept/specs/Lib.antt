@@ -9,3 +9,5 @@ pub mod Counted
 pub mod Shared
 pub mod Steps
 pub mod Histories
+pub mod Refusals
+pub mod Tables
