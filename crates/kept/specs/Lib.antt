@@ -5,5 +5,9 @@ pub mod Acts
 pub mod Carried
 pub mod Waiting
 pub mod Requests
+pub mod Counted
 pub mod Shared
 pub mod Steps
+pub mod Histories
+pub mod Refusals
+pub mod Tables

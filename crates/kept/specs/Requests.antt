@@ -83,11 +83,11 @@ place-fine c f n = record { control = f; room = omega arith; whole = kept-none [
 
 module _ (x : Place) (f : FinePlace x) (used : x .control .state ≡ 0 → ⊥) where
   -- ITS CONTROL RECORD CHANGED
-  pub control-goes-on : (c : Control) → Stays (x .control) c → GoesOn x (withControl x c)
-  control-goes-on c s = record {
-    fine = record { control = s .fine; room = f .room; whole = f .whole; free = λ e. absurd (used (sym (s .state) ∙ e)) };
-    state = λ e. used (sym (s .state) ∙ e);
-    service = s .service;
+  pub control-goes-on : (c : Control) → FineControl c → (c .state ≡ 0 → ⊥) → c .service ≡ x .control .service → GoesOn x (withControl x c)
+  control-goes-on c g n e = record {
+    fine = record { control = g; room = f .room; whole = f .whole; free = λ e. absurd (n e) };
+    state = n;
+    service = e;
   }
 
   -- A COMPONENT PASSED
@@ -115,7 +115,7 @@ module _ (x : Place) (f : FinePlace x) (used : x .control .state ≡ 0 → ⊥) 
 
   idle-goes-on : (id : ℕ) → GoesOn x (withControl x (toIdle (x .control) id))
   unfolding toIdle
-  idle-goes-on id = control-goes-on (toIdle (x .control) id) (record { fine = to-idle-fine (x .control) (f .control) id; state = refl; service = refl })
+  idle-goes-on id = control-goes-on (toIdle (x .control) id) (to-idle-fine (x .control) (f .control) id) used refl
 
   invoke-goes-on : (id linked class : ℕ) (op par : List ℕ) → id < 256 → linked ≤ noID → invokeRefusal x id linked class op par ≡ 0
       → GoesOn x (record { control = passed (x .control) id class; waiting = x .waiting ++ invokeOctets id linked op par })

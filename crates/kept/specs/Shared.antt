@@ -16,11 +16,11 @@ use Rattle.shares.specs.Share.{Shares, Sound, fits-shares, kept-sound, sound-ke
 use Rattle.facts.specs.Fine.{FinePlace, Fine}
 use Rattle.facts.specs.Slots.{free-is}
 use Rattle.facts.specs.Counts.{all-places, free-there, lowest-is-free}
-use Rattle.facts.specs.Changes.{freed-fine, held-set, of-used, fine-with, fine-stays}
+use Rattle.facts.specs.Changes.{freed-fine, held-set, of-used, held-same, of-same, fine-with, fine-stays}
 use Rattle.kept.specs.Requests.{GoesOn}
 
 -- what a place counts
-of-free : (x : Place) (s : ℕ) → x .control .state ≡ 0 → isOf s x ≡ 0
+pub of-free : (x : Place) (s : ℕ) → x .control .state ≡ 0 → isOf s x ≡ 0
 unfolding isOf isFree
 of-free x s e = sym (yes _ _ _ (eq-eqb (x .control .state) 0 e) refl)
 
@@ -60,6 +60,18 @@ module _ (T : Table) (f : Fine T) (p : ℕ) (h : p < 128) (x : Place) (s : ℕ) 
       held-but (now s - 1) (omega (arith, set-there s, of-free x s b, of-own (placeAt T p) s a e))
       (λ k n. of-free x k b ∙ sym (of-other (placeAt T p) k a (λ w. n (sym w ∙ e))))
 
+-- A TABLE THAT ONE CALL OF A SERVICE LEFT: fine, with the same shares; what was begun (b) and ended (e) of that service is what it
+-- holds more or less
+pub record Moved (T : Table) (s b e : ℕ) (U : Table) : Type 0 where
+  pub fine : Fine U
+  pub guarantees : U .guarantees ≡ T .guarantees
+  pub limits : U .limits ≡ T .limits
+  pub own : b + held (T .places) s ≡ e + held (U .places) s
+  pub others : (k : ℕ) → (k ≡ s → ⊥) → held (U .places) k ≡ held (T .places) k
+
+pub moved-as : {T U : Table} {s b e c d : ℕ} → Moved T s b e U → c ≡ b → d ≡ e → Moved T s c d U
+moved-as m p q = record { fine = m .fine; guarantees = m .guarantees; limits = m .limits; own = omega (arith, m .own); others = m .others }
+
 -- THE COUNTS of a fine table are sound, and a table with sound ones keeps the shares
 module _ (T : Table) (f : Fine T) where
   fit : sharesFit 128 16 (guaranteeOf T) (limitOf T) ≡ true
@@ -89,18 +101,40 @@ module _ (T : Table) (f : Fine T) where
       let x : Place = placeAt T p in
       omega (arith, sumBy-at (isOf (x .control .service)) (T .places) p (emptyPlace 0) (omega (arith, f .places)), of-own x (x .control .service) n refl)
 
+  -- NOTHING CHANGED
+  pub not-moved : (s : ℕ) → Moved T s 0 0 T
+  not-moved s = record { fine = f; guarantees = refl; limits = refl; own = refl; others = λ k n. refl }
+
   -- FREED, by the service that has it
-  pub fine-freed : (p : ℕ) → p < 128 → (placeAt T p .control .state ≡ 0 → ⊥) → Fine (withPlace T p (freed (placeAt T p)))
-  fine-freed p h n =
+  pub moved-freed : (p s : ℕ) → p < 128 → (placeAt T p .control .state ≡ 0 → ⊥) → placeAt T p .control .service ≡ s
+      → Moved T s 0 1 (withPlace T p (freed (placeAt T p)))
+  moved-freed p s h n e =
       let x : Place = placeAt T p in
-      let s : ℕ = x .control .service in
-      fine-with T f p h (freed x) (freed-fine x)
-      (kept-by p (freed x) (but (held (T .places)) s (held (T .places) s - 1)) (held-freed T f p h (freed x) s n refl refl)
-      (release-sound 128 16 (guaranteeOf T) (limitOf T) (held (T .places)) shares sound s (f .each p h .control .service) (one-held p h n)))
+      let c : ℕ → ℕ = held (T .places) in
+      let some : 0 < c s = subst (λ (k : ℕ). 0 < c k) e (one-held p h n) in
+      let after : held (withPlace T p (freed x) .places) ≡ but c s (c s - 1) = held-freed T f p h (freed x) s n e refl in
+      record {
+        fine = fine-with T f p h (freed x) (freed-fine x)
+            (kept-by p (freed x) (but c s (c s - 1)) after
+            (release-sound 128 16 (guaranteeOf T) (limitOf T) c shares sound s (subst (λ (k : ℕ). k < 16) e (f .each p h .control .service)) some));
+        guarantees = refl;
+        limits = refl;
+        own = omega (arith, ap (λ (g : ℕ → ℕ). g s) after, but-same c s (c s - 1));
+        others = λ k m. ap (λ (g : ℕ → ℕ). g k) after ∙ but-other c s (c s - 1) k m;
+      }
 
   -- A DIALOGUE THAT GOES ON
-  pub fine-goes-on : (p : ℕ) → p < 128 → (placeAt T p .control .state ≡ 0 → ⊥) → (y : Place) → GoesOn (placeAt T p) y → Fine (withPlace T p y)
-  fine-goes-on p h n y g = fine-stays T f p h y (g .fine) n (g .state) (g .service)
+  pub moved-on : (p s : ℕ) → p < 128 → (placeAt T p .control .state ≡ 0 → ⊥) → (y : Place) → GoesOn (placeAt T p) y → Moved T s 0 0 (withPlace T p y)
+  moved-on p s h n y g =
+      let same : held (withPlace T p y .places) ≡ held (T .places) =
+      held-same (T .places) p y (omega (arith, f .places)) (of-same y (placeAt T p) (g .state) n (g .service)) in
+      record {
+        fine = fine-stays T f p h y (g .fine) n (g .state) (g .service);
+        guarantees = refl;
+        limits = refl;
+        own = omega (arith, ap (λ (g : ℕ → ℕ). g s) same);
+        others = λ k m. ap (λ (g : ℕ → ℕ). g k) same;
+      }
 
   -- TAKEN: the lowest free place, by a service that may begin
   module _ (s : ℕ) (s< : s < 16) (may : mayBegin T s ≡ true) where
@@ -111,11 +145,17 @@ module _ (T : Table) (f : Fine T) where
     pub lowest-there : lowestFree T < 128
     lowest-there = free-there T f (gives-room 128 16 (guaranteeOf T) (limitOf T) (held (T .places)) shares sound s s< given)
 
-    pub fine-taken : (x : Place) → FinePlace x → (x .control .state ≡ 0 → ⊥) → x .control .service ≡ s → Fine (withPlace T (lowestFree T) x)
-    fine-taken x g n e =
+    pub moved-taken : (x : Place) → FinePlace x → (x .control .state ≡ 0 → ⊥) → x .control .service ≡ s → Moved T s 1 0 (withPlace T (lowestFree T) x)
+    moved-taken x g n e =
         let p : ℕ = lowestFree T in
         let h : p < 128 = lowest-there in
-        fine-with T f p h x g
-        (kept-by p x (but (held (T .places)) s (suc (held (T .places) s)))
-        (held-taken T f p h x s (free-is (placeAt T p) (lowest-is-free T f h)) n e)
-        (take-sound 128 16 (guaranteeOf T) (limitOf T) (held (T .places)) shares sound s s< given))
+        let c : ℕ → ℕ = held (T .places) in
+        let after : held (withPlace T p x .places) ≡ but c s (suc (c s)) = held-taken T f p h x s (free-is (placeAt T p) (lowest-is-free T f h)) n e in
+        record {
+          fine = fine-with T f p h x g
+              (kept-by p x (but c s (suc (c s))) after (take-sound 128 16 (guaranteeOf T) (limitOf T) c shares sound s s< given));
+          guarantees = refl;
+          limits = refl;
+          own = omega (arith, ap (λ (g : ℕ → ℕ). g s) after, but-same c s (suc (c s)));
+          others = λ k m. ap (λ (g : ℕ → ℕ). g k) after ∙ but-other c s (suc (c s)) k m;
+        }

@@ -1,0 +1,135 @@
+-- COUNTED FOR DEMAND 3 (01, "A received message"): from the calls, their answers and rows alone, never from the table. Assumes nothing.
+use mathlib.Core.Path.{_≡_, refl, sym}
+use mathlib.Core.Bool.{Bool, true, false}
+use mathlib.Core.List.{List, [], _∷_}
+use Prim.Native.Nat.{ℕ, zero, suc, _+_, _≤_}
+use native.Mathlib.Omega.{arith}
+use lib.Dec.{eqb}
+use borrow.Author.Tests.{eqb-true, eqb-false}
+use Rattle.laws.specs.If.{ifEq, eq, ne}
+use Rattle.laws.specs.Sums.{sumBy}
+use Rattle.paper.specs.declared.Component.{Component}
+use Rattle.paper.specs.declared.Control.{Control}
+use Rattle.paper.specs.declared.Acted.{Acted}
+use Rattle.paper.specs.declared.Row.{Row}
+use Rattle.paper.specs.Components.{Item}
+use Rattle.paper.specs.Invocations.{rejected, answerKind, answersSent, answers, invokes, rejectKind, rejects, faultyReject, faults, act}
+use Rattle.paper.specs.Rows.{rowBegin, rowEnd, rowUserAbort, rowAbort, rowBy, componentRow, componentRows}
+use Rattle.paper.specs.Dialogues.{Request, Invoke, Result, Error, UserReject, Cancel, Begin, Continue, End, Prearranged, Abort, Unidirectional, Timeout, RejectTimeout, NoReaction}
+use Rattle.paper.specs.Calls.{Out, Call, Open, OnDialogue, Receive}
+use Rattle.kept.specs.Leaves.{whether-eq, whether-lt, whether-b}
+
+-- "a BEGIN row"; "a row 4, 5 or 6"
+unfoldable pub isBegun : Row → ℕ
+isBegun r = ifEq (r .kind) rowBegin 1 0
+
+unfoldable pub isEnded : Row → ℕ
+isEnded r = ifEq (r .kind) rowEnd 1 (ifEq (r .kind) rowUserAbort 1 (ifEq (r .kind) rowAbort 1 0))
+
+abbrev pub begunRows : List Row → ℕ
+begunRows rows = sumBy isBegun rows
+
+abbrev pub endedRows : List Row → ℕ
+endedRows rows = sumBy isEnded rows
+
+-- "an end, user abort or Unidirectional request answered 0"
+abbrev pub endsBy : Request → ℕ → ℕ
+endsBy r (suc n) = 0
+endsBy (Invoke id linked class op par) zero = 0
+endsBy (Result tag id op par) zero = 0
+endsBy (Error id err par) zero = 0
+endsBy (UserReject id p) zero = 0
+endsBy (Cancel id) zero = 0
+endsBy Begin zero = 0
+endsBy Continue zero = 0
+endsBy End zero = 1
+endsBy Prearranged zero = 1
+endsBy (Abort portion) zero = 1
+endsBy Unidirectional zero = 1
+endsBy (Timeout id) zero = 0
+endsBy (RejectTimeout id) zero = 0
+endsBy NoReaction zero = 0
+
+-- "an open answered 0"
+abbrev pub openedBy : ℕ → ℕ
+openedBy zero = 1
+openedBy (suc n) = 0
+
+-- the service of a call, and what it began and ended of it
+abbrev pub serviceOf : Call → ℕ
+serviceOf (Open service) = service
+serviceOf (OnDialogue service dialogue r) = service
+serviceOf (Receive service s) = service
+
+abbrev pub begunBy : Call → Out → ℕ
+begunBy (Open service) o = begunRows (o .rows) + openedBy (o .answer)
+begunBy (OnDialogue service dialogue r) o = begunRows (o .rows)
+begunBy (Receive service s) o = begunRows (o .rows)
+
+abbrev pub endedBy : Call → Out → ℕ
+endedBy (Open service) o = endedRows (o .rows)
+endedBy (OnDialogue service dialogue r) o = endedRows (o .rows) + endsBy r (o .answer)
+endedBy (Receive service s) o = endedRows (o .rows)
+
+-- A ROW OF A KIND
+module _ (r : Row) where
+  pub row-begun : r .kind ≡ 2 → (isBegun r ≡ 1) × (isEnded r ≡ 0)
+  unfolding isBegun isEnded
+  row-begun e =
+      (sym (eq _ _ _ _ e refl), sym (ne _ _ _ _ (λ z. omega arith) (ne _ _ _ _ (λ z. omega arith) (ne _ _ _ _ (λ z. omega arith) refl))))
+
+  pub row-ended : 4 ≤ r .kind → r .kind ≤ 6 → (isBegun r ≡ 0) × (isEnded r ≡ 1)
+  unfolding isBegun isEnded
+  row-ended a b =
+      (sym (ne _ _ _ _ (λ z. omega arith) refl), sym (ended (eqb (r .kind) 4) refl (eqb (r .kind) 5) refl))
+    where
+      ended : (c : Bool) → eqb (r .kind) 4 ≡ c → (d : Bool) → eqb (r .kind) 5 ≡ d → 1 ≡ isEnded r
+      ended true p d q = eq _ _ _ _ (eqb-true (r .kind) 4 p) refl
+      ended false p true q = ne _ _ _ _ (eqb-false (r .kind) 4 p) (eq _ _ _ _ (eqb-true (r .kind) 5 q) refl)
+      ended false p false q =
+          let n : r .kind ≡ 4 → ⊥ = eqb-false (r .kind) 4 p in
+          let m : r .kind ≡ 5 → ⊥ = eqb-false (r .kind) 5 q in
+          ne _ _ _ _ n (ne _ _ _ _ m (eq _ _ _ _ (omega arith) refl))
+
+  pub row-other : (r .kind ≡ 2 → ⊥) → (r .kind ≡ 4 → ⊥) → (r .kind ≡ 5 → ⊥) → (r .kind ≡ 6 → ⊥) → (isBegun r ≡ 0) × (isEnded r ≡ 0)
+  unfolding isBegun isEnded
+  row-other a b c d = (sym (ne _ _ _ _ a refl), sym (ne _ _ _ _ b (ne _ _ _ _ c (ne _ _ _ _ d refl))))
+
+-- A COMPONENT'S ROW is of none of these kinds
+Above : Acted → Type 0
+Above a = 7 ≤ a .kind
+
+answer-above : (tag : ℕ) → 7 ≤ answerKind tag
+unfolding answerKind
+answer-above tag = whether-eq (λ (n : ℕ). 7 ≤ n) _ _ _ _ (omega arith) (whether-eq (λ (n : ℕ). 7 ≤ n) _ _ _ _ (omega arith) (omega arith))
+
+reject-above : (p : ℕ) → 7 ≤ rejectKind p
+unfolding rejectKind
+reject-above p = whether-eq (λ (n : ℕ). 7 ≤ n) _ _ _ _ (omega arith) (omega arith)
+
+rejected-above : (room : ℕ) (c : Control) (id p : ℕ) → Above (rejected room c id p)
+unfolding rejected Above
+rejected-above room c id p = whether-lt Above _ _ _ _ (omega arith) (omega arith)
+
+act-above : (room : ℕ) (c : Control) (p : Component) → Above (act room c p)
+unfolding act invokes rejects answers answersSent faults faultyReject Above
+act-above room c p =
+    whether-eq Above _ _ _ _
+    (whether-eq Above _ _ _ _
+    (whether-eq Above _ _ _ _ (omega arith) (whether-eq Above _ _ _ _ (omega arith) (rejected-above room _ _ _)))
+    (whether-eq Above _ _ _ _
+    (whether-lt Above _ _ _ _ (reject-above (p .problem)) (reject-above (p .problem)))
+    (whether-eq Above _ _ _ _
+    (whether-eq Above _ _ _ _ (rejected-above room _ _ _) (whether-eq Above _ _ _ _ (answer-above (p .tag)) (answer-above (p .tag))))
+    (rejected-above room _ _ _))))
+    (whether-eq Above _ _ _ _ (whether-eq Above _ _ _ _ (omega arith) (omega arith))
+    (whether-b Above _ _ _ (rejected-above room _ _ _) (rejected-above room _ _ _)))
+
+pub components-none : (me room : ℕ) (is : List Item) (c : Control) → (begunRows (componentRows me room c is) ≡ 0) × (endedRows (componentRows me room c is) ≡ 0)
+unfolding componentRows componentRow Above
+components-none me room [] c = (refl, refl)
+components-none me room (i ∷ is) c =
+    let a : 7 ≤ act room c (i .part) .kind = act-above room c (i .part) in
+    let w = row-other (rowBy me room c i) (λ z. omega arith) (λ z. omega arith) (λ z. omega arith) (λ z. omega arith) in
+    let v = components-none me room is (act room c (i .part) .control) in
+    (omega arith, omega arith)
