@@ -95,41 +95,46 @@ module _ (r : Row) where
   unfolding isBegun isEnded
   row-other a b c d = (sym (ne _ _ _ _ a refl), sym (ne _ _ _ _ b (ne _ _ _ _ c (ne _ _ _ _ d refl))))
 
--- A COMPONENT'S ROW is of none of these kinds
-Above : Acted → Type 0
-Above a = 7 ≤ a .kind
+-- A COMPONENT'S ROW is of kind 7 to 14: what holds of these holds of it
+module _ (P : ℕ → Type 0) (each : (n : ℕ) → 7 ≤ n → n ≤ 14 → P n) where
+  Kind : Acted → Type 0
+  Kind a = P (a .kind)
 
-answer-above : (tag : ℕ) → 7 ≤ answerKind tag
-unfolding answerKind
-answer-above tag = whether-eq (λ (n : ℕ). 7 ≤ n) _ _ _ _ (omega arith) (whether-eq (λ (n : ℕ). 7 ≤ n) _ _ _ _ (omega arith) (omega arith))
+  answer-kind : (tag : ℕ) → P (answerKind tag)
+  unfolding answerKind
+  answer-kind tag = whether-eq P _ _ _ _ (each 8 (omega arith) (omega arith)) (whether-eq P _ _ _ _ (each 9 (omega arith) (omega arith)) (each 10 (omega arith) (omega arith)))
 
-reject-above : (p : ℕ) → 7 ≤ rejectKind p
-unfolding rejectKind
-reject-above p = whether-eq (λ (n : ℕ). 7 ≤ n) _ _ _ _ (omega arith) (omega arith)
+  reject-kind : (p : ℕ) → P (rejectKind p)
+  unfolding rejectKind
+  reject-kind p = whether-eq P _ _ _ _ (each 11 (omega arith) (omega arith)) (each 12 (omega arith) (omega arith))
 
-rejected-above : (room : ℕ) (c : Control) (id p : ℕ) → Above (rejected room c id p)
-unfolding rejected Above
-rejected-above room c id p = whether-lt Above _ _ _ _ (omega arith) (omega arith)
+  rejected-kind : (room : ℕ) (c : Control) (id p : ℕ) → Kind (rejected room c id p)
+  unfolding rejected Kind
+  rejected-kind room c id p = whether-lt Kind _ _ _ _ (each 13 (omega arith) (omega arith)) (each 14 (omega arith) (omega arith))
 
-act-above : (room : ℕ) (c : Control) (p : Component) → Above (act room c p)
-unfolding act invokes rejects answers answersSent faults faultyReject Above
-act-above room c p =
-    whether-eq Above _ _ _ _
-    (whether-eq Above _ _ _ _
-    (whether-eq Above _ _ _ _ (omega arith) (whether-eq Above _ _ _ _ (omega arith) (rejected-above room _ _ _)))
-    (whether-eq Above _ _ _ _
-    (whether-lt Above _ _ _ _ (reject-above (p .problem)) (reject-above (p .problem)))
-    (whether-eq Above _ _ _ _
-    (whether-eq Above _ _ _ _ (rejected-above room _ _ _) (whether-eq Above _ _ _ _ (answer-above (p .tag)) (answer-above (p .tag))))
-    (rejected-above room _ _ _))))
-    (whether-eq Above _ _ _ _ (whether-eq Above _ _ _ _ (omega arith) (omega arith))
-    (whether-b Above _ _ _ (rejected-above room _ _ _) (rejected-above room _ _ _)))
+  act-kinds : (room : ℕ) (c : Control) (p : Component) → Kind (act room c p)
+  unfolding act invokes rejects answers answersSent faults faultyReject Kind
+  act-kinds room c p =
+      whether-eq Kind _ _ _ _
+      (whether-eq Kind _ _ _ _
+      (whether-eq Kind _ _ _ _ (each 7 (omega arith) (omega arith)) (whether-eq Kind _ _ _ _ (each 7 (omega arith) (omega arith)) (rejected-kind room _ _ _)))
+      (whether-eq Kind _ _ _ _
+      (whether-lt Kind _ _ _ _ (reject-kind (p .problem)) (reject-kind (p .problem)))
+      (whether-eq Kind _ _ _ _
+      (whether-eq Kind _ _ _ _ (rejected-kind room _ _ _) (whether-eq Kind _ _ _ _ (answer-kind (p .tag)) (answer-kind (p .tag))))
+      (rejected-kind room _ _ _))))
+      (whether-eq Kind _ _ _ _ (whether-eq Kind _ _ _ _ (each 14 (omega arith) (omega arith)) (each 14 (omega arith) (omega arith)))
+      (whether-b Kind _ _ _ (rejected-kind room _ _ _) (rejected-kind room _ _ _)))
+
+  pub act-kind : (room : ℕ) (c : Control) (p : Component) → P (act room c p .kind)
+  unfolding Kind
+  act-kind room c p = act-kinds room c p
 
 pub components-none : (me room : ℕ) (is : List Item) (c : Control) → (begunRows (componentRows me room c is) ≡ 0) × (endedRows (componentRows me room c is) ≡ 0)
-unfolding componentRows componentRow Above
+unfolding componentRows componentRow
 components-none me room [] c = (refl, refl)
 components-none me room (i ∷ is) c =
-    let a : 7 ≤ act room c (i .part) .kind = act-above room c (i .part) in
+    let a : 7 ≤ act room c (i .part) .kind = act-kind (λ (n : ℕ). 7 ≤ n) (λ n a b. a) room c (i .part) in
     let w = row-other (rowBy me room c i) (λ z. omega arith) (λ z. omega arith) (λ z. omega arith) (λ z. omega arith) in
     let v = components-none me room is (act room c (i .part) .control) in
     (omega arith, omega arith)

@@ -8,6 +8,6 @@ pub mod Requests
 pub mod Counted
 pub mod Shared
 pub mod Steps
-pub mod Histories
+pub mod Fresh
 pub mod Refusals
 pub mod Tables

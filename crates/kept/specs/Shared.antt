@@ -78,10 +78,10 @@ module _ (T : Table) (f : Fine T) where
   unfolding tableShares
   fit = was-yes _ _ _ (sym (f .shares)) true-false .0
 
-  shares : Shares 128 16 (guaranteeOf T) (limitOf T)
+  pub shares : Shares 128 16 (guaranteeOf T) (limitOf T)
   shares = fits-shares 128 16 (guaranteeOf T) (limitOf T) fit
 
-  sound : Sound 128 16 (guaranteeOf T) (limitOf T) (held (T .places))
+  pub sound : Sound 128 16 (guaranteeOf T) (limitOf T) (held (T .places))
   unfolding tableShares
   sound =
       kept-sound 128 16 (guaranteeOf T) (limitOf T) (held (T .places)) (few (sum (held (T .places)) 16) (sumBy flag (T .places)) (all-places T f))

@@ -14,7 +14,7 @@ use Rattle.facts.specs.Whole.{view-encode}
 use Rattle.facts.specs.Ready.{Ready, encode-rules, encode-ready}
 use Rattle.kept.specs.Steps.{WellFormed, step-kept}
 use Rattle.kept.specs.Refusals.{refused-same}
-use Rattle.kept.specs.Histories.{fresh-fine}
+use Rattle.kept.specs.Fresh.{fresh-fine}
 
 -- a call leaves a table that keeps the rules
 module _ (l : Lent) (c : Call) (w : WellFormed c) (r : Ready (l .table)) where
