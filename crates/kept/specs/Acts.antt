@@ -88,8 +88,8 @@ unfolding senderOf
 linked-sender = sym (ne _ _ _ _ (λ e. omega arith) (eq _ _ _ _ (omega arith) (lt _ _ _ _ (omega arith) (eq _ _ _ _ (omega arith) refl))))
 
 module _ (c : Control) (f : FineControl c) where
-  same : Stays c c
-  same = record { fine = f; state = refl; service = refl }
+  pub unchanged : Stays c c
+  unchanged = record { fine = f; state = refl; service = refl }
 
   idle-stays : (id : ℕ) → Stays c (toIdle c id)
   unfolding toIdle
@@ -97,7 +97,7 @@ module _ (c : Control) (f : FineControl c) where
 
   released-stays : (id : ℕ) → Stays c (released c id)
   unfolding released
-  released-stays id = by-eq {r = released c id} _ _ _ _ refl (λ a z. subst (Stays c) (sym z) (idle-stays id)) (λ a z. subst (Stays c) (sym z) same)
+  released-stays id = by-eq {r = released c id} _ _ _ _ refl (λ a z. subst (Stays c) (sym z) (idle-stays id)) (λ a z. subst (Stays c) (sym z) unchanged)
 
   -- the state of one that is Sent
   state-stays : (id : ℕ) → stateOf c id ≡ 2 → Stays c (toState c id 3)
@@ -122,7 +122,7 @@ module _ (room : ℕ) (most : room ≤ 8) where
   rejected-stays c f id p h s g =
       by-lt {r = rejected room c id p} _ _ _ _ refl
       (λ a z. is z (record { fine = with-reject-fine c f (record { id = id; problem = p }) (omega arith) (record { sender = s; id = h; general = g }); state = refl; service = refl }))
-      (λ a z. is z (same c f))
+      (λ a z. is z (unchanged c f))
 
   module _ (c : Control) (f : FineControl c) where
     answered : (id tag : ℕ) → id < 256 → Stays c (answers room c tag id .control)
@@ -138,18 +138,18 @@ module _ (room : ℕ) (most : room ≤ 8) where
     invoked : (id linked : ℕ) → id < 256 → Stays c (invokes room c id linked .control)
     unfolding invokes
     invoked id linked h =
-        by-eq {r = invokes room c id linked} _ _ _ _ refl (λ a z. is z (same c f))
-        (λ a z. by-eq _ _ _ _ z (λ b z. is z (same c f)) (λ b z. is z (rejected-stays c f id (problem 1 5) (omega arith) linked-sender (λ q. absurd (omega arith)))))
+        by-eq {r = invokes room c id linked} _ _ _ _ refl (λ a z. is z (unchanged c f))
+        (λ a z. by-eq _ _ _ _ z (λ b z. is z (unchanged c f)) (λ b z. is z (rejected-stays c f id (problem 1 5) (omega arith) linked-sender (λ q. absurd (omega arith)))))
 
     rejecting : (id p : ℕ) → Stays c (rejects c id p .control)
     unfolding rejects
-    rejecting id p = by-lt {r = rejects c id p} _ _ _ _ refl (λ a z. is z (released-stays c f id)) (λ a z. is z (same c f))
+    rejecting id p = by-lt {r = rejects c id p} _ _ _ _ refl (λ a z. is z (released-stays c f id)) (λ a z. is z (unchanged c f))
 
     faulted : (p : Component) → Readable p → p .fault < 3 → Stays c (faults room c p .control)
     unfolding faults faultyReject
     faulted p g h =
         by-eq {r = faults room c p} _ _ _ _ refl
-        (λ a z. by-eq _ _ _ _ z (λ b z. is z (same c f)) (λ b z. is z (released-stays c f (p .id))))
+        (λ a z. by-eq _ _ _ _ z (λ b z. is z (unchanged c f)) (λ b z. is z (released-stays c f (p .id))))
         (λ a z. by-b _ _ _ z
         (λ b z. let w = released-stays c f (p .id) in is z (stays-on w (told (released c (p .id)) (w .fine))))
         (λ b z. is z (told c f)))
@@ -172,7 +172,7 @@ AllReadable (i ∷ is) = Readable (i .part) × AllReadable is
 
 pub all-acted-stays : (room : ℕ) → room ≤ 8 → (is : List Item) → AllReadable is → (c : Control) → FineControl c → Stays c (allActed room c is)
 unfolding allActed
-all-acted-stays room h [] a c f = same c f
+all-acted-stays room h [] a c f = unchanged c f
 all-acted-stays room h (i ∷ is) a c f =
     let w = act-stays room h c f (i .part) (a .0) in stays-on w (all-acted-stays room h is (a .1) (act room c (i .part) .control) (w .fine))
 

@@ -17,7 +17,7 @@ use Rattle.readback.specs.Written.{Written, octetsOf, ResultTag, Allowed}
 use Rattle.facts.specs.Fine.{FinePeer, FineControl, FinePlace}
 use Rattle.facts.specs.Slots.{empty-fine}
 use Rattle.kept.specs.Controls.{passed-fine, to-state-fine, to-idle-fine, transmitted-fine}
-use Rattle.kept.specs.Acts.{Stays}
+use Rattle.kept.specs.Acts.{Stays, unchanged}
 use Rattle.kept.specs.Waiting.{kept-none, waiting-append, written-kept}
 
 -- A DIALOGUE THAT GOES ON, of the same service
@@ -110,9 +110,6 @@ module _ (x : Place) (f : FinePlace x) (used : x .control .state ≡ 0 → ⊥) 
         service = s .service;
       }
 
-  same : Stays (x .control) (x .control)
-  same = record { fine = f .control; state = refl; service = refl }
-
   idle-goes-on : (id : ℕ) → GoesOn x (withControl x (toIdle (x .control) id))
   unfolding toIdle
   idle-goes-on id = control-goes-on (toIdle (x .control) id) (to-idle-fine (x .control) (f .control) id) used refl
@@ -136,7 +133,7 @@ module _ (x : Place) (f : FinePlace x) (used : x .control .state ≡ 0 → ⊥) 
   unfolding resultRefusal octetsOf
   result-goes-on tag id op par t h e =
       by-eq _ _ _ _ (sym e) (λ z w. absurd (omega arith))
-      (λ z w. let k = was-yes _ _ _ w (λ z. omega arith) in pass-goes-on (x .control) same (Written.Result tag id op par) (t, h, k .0) (sym (k .1)))
+      (λ z w. let k = was-yes _ _ _ w (λ z. omega arith) in pass-goes-on (x .control) (unchanged (x .control) (f .control)) (Written.Result tag id op par) (t, h, k .0) (sym (k .1)))
 
   error-goes-on : (id : ℕ) (err par : List ℕ) → id < 256 → errorRefusal x id err par ≡ 0
       → GoesOn x (record { control = x .control; waiting = x .waiting ++ errorOctets id err par })
@@ -146,7 +143,7 @@ module _ (x : Place) (f : FinePlace x) (used : x .control .state ≡ 0 → ⊥) 
       (λ z w.
       let k = was-yes _ _ _ w (λ z. omega arith) in
       let p = was-yes _ _ _ (k .1) (λ z. omega arith) in
-      pass-goes-on (x .control) same (Written.Error id err par) (h, k .0, p .0) (sym (p .1)))
+      pass-goes-on (x .control) (unchanged (x .control) (f .control)) (Written.Error id err par) (h, k .0, p .0) (sym (p .1)))
 
   -- one that may be rejected is in use, but an invoke's reject needs none
   may-used : (id kind : ℕ) → (kind ≡ 1 → ⊥) → mayReject kind (invocationOf (x .control .invocations) id) ≡ true → stateOf (x .control) id ≡ 0 → ⊥
@@ -159,7 +156,7 @@ module _ (x : Place) (f : FinePlace x) (used : x .control .state ≡ 0 → ⊥) 
   rejected-by-stays : (id p : ℕ) → mayReject (kindOf p) (invocationOf (x .control .invocations) id) ≡ true → Stays (x .control) (rejectedBy (x .control) id p)
   unfolding rejectedBy toState
   rejected-by-stays id p e =
-      by-eq {r = rejectedBy (x .control) id p} _ _ _ _ refl (λ a z. subst (Stays (x .control)) (sym z) same)
+      by-eq {r = rejectedBy (x .control) id p} _ _ _ _ refl (λ a z. subst (Stays (x .control)) (sym z) (unchanged (x .control) (f .control)))
       (λ a z. subst (Stays (x .control)) (sym z)
       (record { fine = to-state-fine (x .control) (f .control) id 4 (may-used id (kindOf p) a e) (omega arith) (omega arith); state = refl; service = refl }))
 
