@@ -21,7 +21,7 @@ use Rattle.paper.specs.Writing.{causeAbortOctets}
 use Rattle.paper.specs.Calls.{Table, Call, Out, mayBegin, lowestFree, owns, assigned, octetsAt, destinationNumber, faulted, shows, beginAt, beginReceived, soundReceived, received, receivedIf, refuse, step}
 use Rattle.paper.specs.Calls.Call.{Receive}
 use Rattle.messages.specs.Bounds.{message-in}
-use Rattle.demands.specs.Changed.{holds-eq, holds-lt, holds-b}
+use Rattle.kept.specs.Leaves.{whether-eq, whether-lt, whether-b}
 
 -- what is read keeps the type and the destination that were derived
 module _ (s : List ℕ) (o : Bool) (d : Derived) where
@@ -33,35 +33,35 @@ module _ (s : List ℕ) (o : Bool) (d : Derived) where
   kept-of m p q = record { tag = p; destination = q }
 
   closing-of : (p : ℕ) (m : Message) → Of m → Of (closing s o p d m)
-  closing-of p m h = holds-b Of _ _ _ h (kept-of _ refl refl)
+  closing-of p m h = whether-b Of _ _ _ h (kept-of _ refl refl)
 
   components-of : (portion : Run) (p : ℕ) → Of (componentsPart s o d portion p)
   unfolding componentsPart componentsBy
   components-of portion p =
-      holds-eq Of _ _ _ _ (holds-eq Of _ _ _ _ (kept-of _ refl refl) (closing-of _ _ (kept-of _ refl refl))) (holds-eq Of _ _ _ _ (kept-of _ refl refl) (closing-of _ _ (kept-of _ refl refl)))
+      whether-eq Of _ _ _ _ (whether-eq Of _ _ _ _ (kept-of _ refl refl) (closing-of _ _ (kept-of _ refl refl))) (whether-eq Of _ _ _ _ (kept-of _ refl refl) (closing-of _ _ (kept-of _ refl refl)))
 
   after-of : (p : ℕ) (r : Reading) → Of (afterPortion s o d p r)
   after-of p (Fault f) = (kept-of _ refl refl)
-  after-of p (Ends x) = holds-eq Of _ _ _ _ (closing-of _ _ (kept-of _ refl refl)) (components-of _ x)
+  after-of p (Ends x) = whether-eq Of _ _ _ _ (closing-of _ _ (kept-of _ refl refl)) (components-of _ x)
 
   abort-of : (p : ℕ) → Of (abortPart s o d p)
   unfolding abortPart
   abort-of p =
-      holds-eq Of _ _ _ _
-      (holds-eq Of _ _ _ _ (holds-lt Of _ _ _ _ (holds-lt Of _ _ _ _ (closing-of _ _ (kept-of _ refl refl)) (kept-of _ refl refl)) (kept-of _ refl refl)) (kept-of _ refl refl))
+      whether-eq Of _ _ _ _
+      (whether-eq Of _ _ _ _ (whether-lt Of _ _ _ _ (whether-lt Of _ _ _ _ (closing-of _ _ (kept-of _ refl refl)) (kept-of _ refl refl)) (kept-of _ refl refl)) (kept-of _ refl refl))
       (closing-of _ _ (kept-of _ refl refl))
 
   portion-of : (p : ℕ) → Of (portionPart s o d p)
   unfolding portionPart
   portion-of p =
-      holds-eq Of (octetAt s p) 0x6B _ _ (after-of p (element s depths (length s) p))
-      (holds-eq Of (d .tag) abortTag _ _ (abort-of p) (components-of noRun p))
+      whether-eq Of (octetAt s p) 0x6B _ _ (after-of p (element s depths (length s) p))
+      (whether-eq Of (d .tag) abortTag _ _ (abort-of p) (components-of noRun p))
 
   order-of : (b : ℕ) → Of (inOrder s o b d)
   unfolding inOrder
   order-of b =
-      holds-eq Of _ _ _ _ (portion-of b)
-      (holds-eq Of _ _ _ _ (holds-eq Of _ _ _ _ (kept-of _ refl refl) (portion-of _)) (holds-eq Of _ _ _ _ (kept-of _ refl refl) (portion-of _)))
+      whether-eq Of _ _ _ _ (portion-of b)
+      (whether-eq Of _ _ _ _ (whether-eq Of _ _ _ _ (kept-of _ refl refl) (portion-of _)) (whether-eq Of _ _ _ _ (kept-of _ refl refl) (portion-of _)))
 
 -- "never in 61, 62": a Begin has no destination
 pub record Lone (m : Message) : Type 0 where
@@ -83,13 +83,13 @@ length-lone : (s : List ℕ) (n : Length) → Lone (byLength s n)
 unfolding byLength
 length-lone s Wrong = fault-lone s 0 isDropped
 length-lone s (Until b) =
-    holds-eq Lone _ _ _ _ (holds-b Lone _ _ _ (derived-lone s true b _ (order-of s true (derived s b) b)) (fault-lone s b 0)) (fault-lone s 0 isDropped)
+    whether-eq Lone _ _ _ _ (whether-b Lone _ _ _ (derived-lone s true b _ (order-of s true (derived s b) b)) (fault-lone s b 0)) (fault-lone s 0 isDropped)
 length-lone s (Given b n) =
-    holds-b Lone _ _ _ (holds-eq Lone _ _ _ _ (derived-lone s false b _ (order-of s false (derived s b) b)) (fault-lone s b 2)) (fault-lone s b 0)
+    whether-b Lone _ _ _ (whether-eq Lone _ _ _ _ (derived-lone s false b _ (order-of s false (derived s b) b)) (fault-lone s b 2)) (fault-lone s b 0)
 
 pub begin-lone : (s : List ℕ) → Lone (messageOf s)
 unfolding messageOf
-begin-lone s = holds-eq Lone _ _ _ _ (fault-lone s 0 isDropped) (length-lone s (lengthAt s (length s) 1))
+begin-lone s = whether-eq Lone _ _ _ _ (fault-lone s 0 isDropped) (length-lone s (lengthAt s (length s) 1))
 
 not-assigned : (T : Table) (service : ℕ) (s : List ℕ) (m : Message) → m .destination .length ≡ 0 → assigned T service s m ≡ false
 unfolding assigned

@@ -19,10 +19,10 @@ use Rattle.facts.specs.Fine.{Fine}
 use Rattle.facts.specs.Whole.{view-encode}
 use Rattle.facts.specs.Ready.{encode-stands}
 use Rattle.shares.specs.Share.{Shares, Sound, below-given, refused-at-limit, refused-full, refused-why}
-use Rattle.demands.specs.Steps.{table-shares, table-sound}
+use Rattle.kept.specs.Shared.{shares as fine-shares, sound as fine-sound}
+use Rattle.kept.specs.Fresh.{fresh-fine, fresh-none}
 use Rattle.demands.specs.Begins.{begin-step}
-use Rattle.demands.specs.Shares.{fresh-fine, fresh-held}
-use Rattle.demands.specs.History.{Made, gave, after, begunOf, endedOf, AllOctets, CallOctets, Reached, history}
+use Rattle.demands.specs.History.{Made, gave, after, begunOf, endedOf, AllFormed, Reached, history}
 
 -- an open by a service, as a host makes it
 abbrev pub asks : ℕ → Made
@@ -66,9 +66,9 @@ received T f s msg rows space a b =
     l : Lent
     l = record { table = encode T; rows = rows; space = space }
 
--- THE STEP KEEPS THE RULES is taken as `kept`; a fresh table with sound shares; any list of calls that hands the table on unaltered
-module _ (kept : (T : Table) → Fine T → (c : Call) → CallOctets c → Fine (step T c .table)) (g l : List ℕ) (a : length g ≡ 16) (b : length l ≡ 16)
-    (fits : sharesFit placesInAll services (λ k. getD g k 0) (λ k. getD l k 0) ≡ true) (ms : List Made) (o : AllOctets ms) where
+-- A FRESH TABLE with sound shares; any list of calls, wrong ones among them, that hands the table on unaltered
+module _ (g l : List ℕ) (a : length g ≡ 16) (b : length l ≡ 16)
+    (fits : sharesFit placesInAll services (λ k. getD g k 0) (λ k. getD l k 0) ≡ true) (ms : List Made) (o : AllFormed ms) where
   abbrev guarantee : ℕ → ℕ
   guarantee s = getD g s 0
 
@@ -83,12 +83,12 @@ module _ (kept : (T : Table) → Fine T → (c : Call) → CallOctets c → Fine
   dialogues s = begunOf s start ms - endedOf s start ms
 
   pub reached : Reached (freshTable g l) ms
-  reached = history kept (freshTable g l) (fresh-fine g l a b fits) ms o
+  reached = history (freshTable g l) (fresh-fine g l a b fits) ms o
 
   -- the count is what the table holds
   pub counted : (s : ℕ) → (begunOf s start ms ≡ endedOf s start ms + dialogues s) × (dialogues s ≡ held (reached .to .places) s)
   counted s =
-      let z : held (freshTable g l .places) s ≡ 0 = ap (λ (c : ℕ → ℕ). c s) (fresh-held g l) in
+      let z : held (freshTable g l .places) s ≡ 0 = fresh-none g l a b fits s in
       (omega (arith, reached .counts s, z), omega (arith, reached .counts s, z))
 
   counts : dialogues ≡ held (reached .to .places)
@@ -106,13 +106,13 @@ module _ (kept : (T : Table) → Fine T → (c : Call) → CallOctets c → Fine
   shares : Shares placesInAll services guarantee limit
   shares =
       subst (λ (x : ℕ → ℕ). Shares placesInAll services x limit) guarantees-are
-      (subst (Shares placesInAll services (guaranteeOf (reached .to))) limits-are (table-shares (reached .to) (reached .fine)))
+      (subst (Shares placesInAll services (guaranteeOf (reached .to))) limits-are (fine-shares (reached .to) (reached .fine)))
 
   sound : Sound placesInAll services guarantee limit dialogues
   sound =
       subst (λ (x : ℕ → ℕ). Sound placesInAll services x limit dialogues) guarantees-are
       (subst (λ (x : ℕ → ℕ). Sound placesInAll services (guaranteeOf (reached .to)) x dialogues) limits-are
-      (subst (Sound placesInAll services (guaranteeOf (reached .to)) (limitOf (reached .to))) (sym counts) (table-sound (reached .to) (reached .fine))))
+      (subst (Sound placesInAll services (guaranteeOf (reached .to)) (limitOf (reached .to))) (sym counts) (fine-sound (reached .to) (reached .fine))))
 
   -- the rule that decides: on what the calls tell
   rule : (s : ℕ) → mayBegin (reached .to) s ≡ gives placesInAll services guarantee limit dialogues s

@@ -22,7 +22,9 @@ use Rattle.paper.specs.Calls.{Table, Call, Out, refuse, stored, requested, open
 use Rattle.paper.specs.Calls.Call.{Open, OnDialogue, Receive}
 use Rattle.messages.specs.Bounds.{MessageIn, message-in}
 use Rattle.facts.specs.Fine.{Octets}
-use Rattle.demands.specs.Changed.{ComponentKind, act-acts, holds-eq, holds-lt, holds-b}
+use Rattle.kept.specs.Leaves.{whether-eq, whether-lt, whether-b}
+use Rattle.kept.specs.Counted.{act-kind}
+use Rattle.kept.specs.Steps.{WellFormed}
 use Rattle.demands.specs.Rows.{noRow, components-few, rows-long}
 
 pub record Fit (rs : List Row) : Type 0 where
@@ -42,7 +44,7 @@ one-fit r h = record { few = omega arith; small = small }
 component-kinds : (me room : ℕ) (c : Control) (is : List Item) (i : ℕ) → i < length (componentRows me room c is) → getD (componentRows me room c is) i noRow .kind < 256
 unfolding componentRows componentRow
 component-kinds me room c [] i h = absurd (omega arith)
-component-kinds me room c (x ∷ is) zero h = omega (arith, act-acts c room (x .part) .kind .most)
+component-kinds me room c (x ∷ is) zero h = act-kind (λ (n : ℕ). n < 256) (λ n a b. omega arith) room c (x .part)
 component-kinds me room c (x ∷ is) (suc i) h = component-kinds me room (act room c (x .part) .control) is i (omega arith)
 
 -- a dialogue's row and at most 103 more
@@ -70,7 +72,7 @@ does-fit me x End = none-fit
 does-fit me x Prearranged = none-fit
 does-fit me x (Abort portion) = none-fit
 does-fit me x Unidirectional = none-fit
-does-fit me x (Timeout id) = holds-eq Fit (invocationOf (x .control .invocations) id .class) 4 [] (cancelRow me id ∷ []) none-fit (one-fit (cancelRow me id) (omega arith))
+does-fit me x (Timeout id) = whether-eq Fit (invocationOf (x .control .invocations) id .class) 4 [] (cancelRow me id ∷ []) none-fit (one-fit (cancelRow me id) (omega arith))
 does-fit me x (RejectTimeout id) = none-fit
 does-fit me x NoReaction = one-fit (dialogueRow rowAbort me noProblem noRun 0) (omega arith)
 
@@ -94,46 +96,41 @@ module _ (T : Table) (service : ℕ) (s : List ℕ) (octets : Octets s) (short :
   unfolding itemsOf
   few =
       let w = message-in s m refl in
-      holds-eq (λ (l : List Item). length l ≤ 103) (m .from) 0 [] (components s (m .to) (m .from)) (omega arith)
+      whether-eq (λ (l : List Item). length l ≤ 103) (m .from) 0 [] (components s (m .to) (m .from)) (omega arith)
       (components-few s octets (m .to) (m .from) (w .order) (omega (arith, w .ends)))
 
   faulted-fit : (cause : ℕ) → Fits (faulted T service s m cause)
   unfolding faulted faultedAt
-  faulted-fit cause = holds-eq Fits (m .origin .length) 0 _ _ none-fit (holds-b Fits _ _ _ (one-fit (dialogueRow rowAbort _ cause noRun 0) (omega arith)) none-fit)
+  faulted-fit cause = whether-eq Fits (m .origin .length) 0 _ _ none-fit (whether-b Fits _ _ _ (one-fit (dialogueRow rowAbort _ cause noRun 0) (omega arith)) none-fit)
 
   to-dialogue-fit : (me : ℕ) (x : Place) → Fits (toDialogue T service me s m x)
   unfolding toDialogue continueReceived endReceived abortReceived
   to-dialogue-fit me x =
-      holds-eq Fits (x .control .state) 3 _ _ (holds-eq Fits (m .tag) continueTag _ _ (faulted-fit 3) none-fit)
-      (holds-eq Fits (m .tag) continueTag _ _ (shown-fit rowContinue me noProblem (m .portion) _ mostRejects _ (itemsOf s m) (omega arith) few)
-      (holds-eq Fits (m .tag) endTag _ _ (shown-fit rowEnd me noProblem (m .portion) _ 0 (x .control) (itemsOf s m) (omega arith) few)
-      (holds-eq (λ (r : Row). Fit (r ∷ [])) (m .cause) noProblem _ _ (one-fit (dialogueRow rowUserAbort me noProblem (m .portion) 0) (omega arith)) (one-fit (dialogueRow rowAbort me (m .cause) noRun 0) (omega arith)))))
+      whether-eq Fits (x .control .state) 3 _ _ (whether-eq Fits (m .tag) continueTag _ _ (faulted-fit 3) none-fit)
+      (whether-eq Fits (m .tag) continueTag _ _ (shown-fit rowContinue me noProblem (m .portion) _ mostRejects _ (itemsOf s m) (omega arith) few)
+      (whether-eq Fits (m .tag) endTag _ _ (shown-fit rowEnd me noProblem (m .portion) _ 0 (x .control) (itemsOf s m) (omega arith) few)
+      (whether-eq (λ (r : Row). Fit (r ∷ [])) (m .cause) noProblem _ _ (one-fit (dialogueRow rowUserAbort me noProblem (m .portion) 0) (omega arith)) (one-fit (dialogueRow rowAbort me (m .cause) noRun 0) (omega arith)))))
 
   sound-fit : Fits (soundReceived T service s m)
   unfolding soundReceived uniReceived beginReceived beginAt
   sound-fit =
-      holds-eq Fits (m .tag) uniTag _ _ (shown-fit rowUni 0 noProblem (m .portion) _ 0 (emptyControl 0) (itemsOf s m) (omega arith) few)
-      (holds-eq Fits (m .tag) beginTag _ _ (holds-b Fits _ _ _ (shown-fit rowBegin _ noProblem (m .portion) _ mostRejects _ (itemsOf s m) (omega arith) few) (faulted-fit 4))
-      (holds-b Fits _ _ _ (to-dialogue-fit _ _) (faulted-fit 1)))
+      whether-eq Fits (m .tag) uniTag _ _ (shown-fit rowUni 0 noProblem (m .portion) _ 0 (emptyControl 0) (itemsOf s m) (omega arith) few)
+      (whether-eq Fits (m .tag) beginTag _ _ (whether-b Fits _ _ _ (shown-fit rowBegin _ noProblem (m .portion) _ mostRejects _ (itemsOf s m) (omega arith) few) (faulted-fit 4))
+      (whether-b Fits _ _ _ (to-dialogue-fit _ _) (faulted-fit 1)))
 
   received-fit : Fits (received T service s m)
   unfolding received
-  received-fit = holds-eq Fits (m .fault) isDropped _ _ none-fit (holds-eq Fits (m .fault) isSound _ _ sound-fit (faulted-fit (m .fault)))
+  received-fit = whether-eq Fits (m .fault) isDropped _ _ none-fit (whether-eq Fits (m .fault) isSound _ _ sound-fit (faulted-fit (m .fault)))
 
--- EVERY STEP; of the calls, only a received message's octets matter
-abbrev pub MessageOctets : Call → Type 0
-MessageOctets (Open service) = Unit
-MessageOctets (OnDialogue service dialogue r) = Unit
-MessageOctets (Receive service s) = Octets s
-
-pub step-fit : (T : Table) (c : Call) → MessageOctets c → Fit (step T c .rows)
+-- EVERY STEP
+pub step-fit : (T : Table) (c : Call) → WellFormed c → Fit (step T c .rows)
 unfolding step opened requested stored receivedIf
-step-fit T (Open service) o = holds-lt Fits service services _ _ (holds-b Fits _ _ _ none-fit none-fit) none-fit
+step-fit T (Open service) o = whether-lt Fits service services _ _ (whether-b Fits _ _ _ none-fit none-fit) none-fit
 step-fit T (OnDialogue service dialogue r) o =
-    holds-lt Fits service services _ _ (holds-b Fits _ _ _ (request-fit dialogue (placeAt T (placeOf dialogue)) r) none-fit) none-fit
+    whether-lt Fits service services _ _ (whether-b Fits _ _ _ (request-fit dialogue (placeAt T (placeOf dialogue)) r) none-fit) none-fit
 step-fit T (Receive service s) o =
-    holds-lt Fits service services _ _
-    (holds-eq Fits (length s) 0 _ _ none-fit
+    whether-lt Fits service services _ _
+    (whether-eq Fits (length s) 0 _ _ none-fit
     (by-lt {r = ifLt 512 (length s) (refuse 4 T) (received T service s (messageOf s))} 512 (length s) (refuse 4 T) (received T service s (messageOf s)) refl
     (λ h e. subst Fits (sym e) none-fit) (λ h e. subst Fits (sym e) (received-fit T service s o h))))
     none-fit

@@ -22,12 +22,11 @@ use Rattle.paper.specs.Outcome.{Lent, Spaces, Outcome, spacesOf, spacesFor, sta
 use Rattle.facts.specs.Fine.{Fine, Octets}
 use Rattle.facts.specs.Whole.{view-encode}
 use Rattle.facts.specs.Ready.{encode-stands}
-use Rattle.demands.specs.Counted.{serviceOf, beginRow, endRow, endsIt, begunIn, endedIn}
-use Rattle.demands.specs.Changed.{Moved, holds-lt, holds-b}
-use Rattle.demands.specs.Steps.{step-counts}
-use Rattle.demands.specs.Shares.{SameShares, step-shares}
+use Rattle.kept.specs.Leaves.{whether-lt, whether-b}
+use Rattle.kept.specs.Counted.{isBegun, isEnded, openedBy, endsBy, serviceOf, begunBy, endedBy}
+use Rattle.kept.specs.Steps.{WellFormed, Left, step-left, step-counted}
 use Rattle.demands.specs.Rows.{sumKinds, kinds-back, noRow}
-use Rattle.demands.specs.Fits.{Fit, MessageOctets, step-fit}
+use Rattle.demands.specs.Fits.{Fit, step-fit}
 
 -- A CALL AS A HOST MAKES IT: beside the table it lends a row space and a message space, of any sizes
 pub record Made : Type 0 where
@@ -52,25 +51,31 @@ abbrev pub endKind : ℕ → ℕ
 endKind k = ifEq k rowEnd 1 (ifEq k rowUserAbort 1 (ifEq k rowAbort 1 0))
 
 -- "begun is an open answered 0 or a BEGIN row"
-unfoldable pub begunBy : Call → Outcome → ℕ
-begunBy (Open service) o = ifEq (o .answer) 0 1 0
-begunBy (OnDialogue service dialogue r) o = 0
-begunBy (Receive service s) o = sumKinds beginKind (o .rows) 0 (o .lent .rows)
+abbrev pub opens : Call → ℕ → ℕ
+opens (Open service) answer = openedBy answer
+opens (OnDialogue service dialogue r) answer = 0
+opens (Receive service s) answer = 0
+
+unfoldable pub begunAt : Call → Outcome → ℕ
+begunAt c o = sumKinds beginKind (o .rows) 0 (o .lent .rows) + opens c (o .answer)
 
 -- "ended is an end, user abort or Unidirectional request answered 0, or a row 4, 5 or 6"
-unfoldable pub endedBy : Call → Outcome → ℕ
-endedBy (Open service) o = 0
-endedBy (OnDialogue service dialogue r) o = ifEq (o .answer) 0 (endsIt r) 0 + sumKinds endKind (o .rows) 0 (o .lent .rows)
-endedBy (Receive service s) o = sumKinds endKind (o .rows) 0 (o .lent .rows)
+abbrev pub ends : Call → ℕ → ℕ
+ends (Open service) answer = 0
+ends (OnDialogue service dialogue r) answer = endsBy r answer
+ends (Receive service s) answer = 0
+
+unfoldable pub endedAt : Call → Outcome → ℕ
+endedAt c o = sumKinds endKind (o .rows) 0 (o .lent .rows) + ends c (o .answer)
 
 -- of one service, over a history
 abbrev pub begunOf : ℕ → List ℕ → List Made → ℕ
 begunOf s t [] = 0
-begunOf s t (m ∷ ms) = ifEq (serviceOf (m .call)) s (begunBy (m .call) (gave t m)) 0 + begunOf s (gave t m .lent .table) ms
+begunOf s t (m ∷ ms) = ifEq (serviceOf (m .call)) s (begunAt (m .call) (gave t m)) 0 + begunOf s (gave t m .lent .table) ms
 
 abbrev pub endedOf : ℕ → List ℕ → List Made → ℕ
 endedOf s t [] = 0
-endedOf s t (m ∷ ms) = ifEq (serviceOf (m .call)) s (endedBy (m .call) (gave t m)) 0 + endedOf s (gave t m .lent .table) ms
+endedOf s t (m ∷ ms) = ifEq (serviceOf (m .call)) s (endedAt (m .call) (gave t m)) 0 + endedOf s (gave t m .lent .table) ms
 
 -- ONE CALL: the table afterwards is a table that keeps the rules, and the count moves by what the call begins and ends
 pub record Next (T : Table) (m : Made) : Type 0 where
@@ -78,47 +83,40 @@ pub record Next (T : Table) (m : Made) : Type 0 where
   pub fine : Fine to
   pub table : gave (encode T) m .lent .table ≡ encode to
   pub shares : (to .guarantees ≡ T .guarantees) × (to .limits ≡ T .limits)
-  pub counts : (s : ℕ) → ifEq (serviceOf (m .call)) s (begunBy (m .call) (gave (encode T) m)) 0 + held (T .places) s
-      ≡ ifEq (serviceOf (m .call)) s (endedBy (m .call) (gave (encode T) m)) 0 + held (to .places) s
-
--- the same count, told for each service
-for-each : (k b e : ℕ) (T U : Table) → Moved k b e (T .places) (U .places) → (s : ℕ) → ifEq k s b 0 + held (T .places) s ≡ ifEq k s e 0 + held (U .places) s
-for-each k b e T U m s =
-    by-eq {r = ifEq k s b 0} k s b 0 refl
-    (λ q w. subst (λ (x : ℕ). ifEq k x b 0 + held (T .places) x ≡ ifEq k x e 0 + held (U .places) x) q
-    (omega (arith, m .mine, eq {r = b} k k b 0 refl refl, eq {r = e} k k e 0 refl refl)))
-    (λ q w. omega (arith, m .others s (λ z. q (sym z)), ne {r = 0} k s b 0 q refl, ne {r = 0} k s e 0 q refl))
+  pub counts : (s : ℕ) → ifEq (serviceOf (m .call)) s (begunAt (m .call) (gave (encode T) m)) 0 + held (T .places) s
+      ≡ ifEq (serviceOf (m .call)) s (endedAt (m .call) (gave (encode T) m)) 0 + held (to .places) s
 
 -- a refusal begins and ends nothing
-refused-begins : (c : Call) (n : ℕ) (l : Lent) → begunBy c (refusedBy (suc n) l) ≡ 0
-unfolding begunBy sumKinds
-refused-begins (Open service) n l = sym (ne (suc n) 0 1 0 (λ h. omega arith) refl)
-refused-begins (OnDialogue service dialogue r) n l = refl
-refused-begins (Receive service s) n l = refl
-
-refused-ends : (c : Call) (n : ℕ) (l : Lent) → endedBy c (refusedBy (suc n) l) ≡ 0
-unfolding endedBy sumKinds
-refused-ends (Open service) n l = refl
-refused-ends (OnDialogue service dialogue r) n l = omega (arith, ne {r = 0} (suc n) 0 (endsIt r) 0 (λ h. omega arith) refl)
-refused-ends (Receive service s) n l = refl
+refused-none : (c : Call) (n : ℕ) (l : Lent) → begunAt c (refusedBy (suc n) l) ≡ endedAt c (refusedBy (suc n) l)
+unfolding begunAt endedAt sumKinds
+refused-none (Open service) n l = refl
+refused-none (OnDialogue service dialogue r) n l = refl
+refused-none (Receive service s) n l = refl
 
 -- a call that is done begins and ends what its rows say, where they fit
 module _ (l : Lent) (o : Out) (done : o .answer ≡ 0) (fit : Fit (o .rows)) (room : 32 * length (o .rows) ≤ length (l .rows)) where
   kinds : (f : ℕ → ℕ) → sumKinds f (length (o .rows)) 0 (sets (l .rows) 0 (rowsOctets (o .rows))) ≡ sumBy (λ (r : Row). f (r .kind)) (o .rows)
   kinds f = kinds-back f (o .rows) 0 (l .rows) (fit .small) (omega (arith, room))
 
-  done-begins : (c : Call) → begunBy c (given l o) ≡ begunIn c o
-  unfolding begunBy begunIn
-  done-begins (Open service) = sym (eq {r = 1} 0 0 1 0 refl refl) ∙ eq {r = 1} (o .answer) 0 1 0 done refl
-  done-begins (OnDialogue service dialogue r) = refl
-  done-begins (Receive service s) = kinds beginKind
+  begins : sumKinds beginKind (length (o .rows)) 0 (sets (l .rows) 0 (rowsOctets (o .rows))) ≡ sumBy isBegun (o .rows)
+  unfolding isBegun
+  begins = kinds beginKind
 
-  done-ends : (c : Call) → endedBy c (given l o) ≡ endedIn c o
-  unfolding endedBy endedIn
-  done-ends (Open service) = refl
-  done-ends (OnDialogue service dialogue r) =
-      omega (arith, kinds endKind, eq {r = endsIt r} 0 0 (endsIt r) 0 refl refl, eq {r = endsIt r} (o .answer) 0 (endsIt r) 0 done refl)
-  done-ends (Receive service s) = kinds endKind
+  ended : sumKinds endKind (length (o .rows)) 0 (sets (l .rows) 0 (rowsOctets (o .rows))) ≡ sumBy isEnded (o .rows)
+  unfolding isEnded
+  ended = kinds endKind
+
+  done-begins : (c : Call) → begunAt c (given l o) ≡ begunBy c o
+  unfolding begunAt
+  done-begins (Open service) = omega (arith, begins, ap openedBy done)
+  done-begins (OnDialogue service dialogue r) = omega (arith, begins)
+  done-begins (Receive service s) = omega (arith, begins)
+
+  done-ends : (c : Call) → endedAt c (given l o) ≡ endedBy c o
+  unfolding endedAt
+  done-ends (Open service) = omega (arith, ended)
+  done-ends (OnDialogue service dialogue r) = omega (arith, ended, ap (endsBy r) done)
+  done-ends (Receive service s) = omega (arith, ended)
 
 -- A CALL WITHOUT A ROW SPACE has no rows
 quiet : (me : ℕ) (x : Place) (r : Request) → spacesOf r .rows ≡ 0 → does me x r .rows ≡ []
@@ -152,11 +150,11 @@ Quiet o = o .rows ≡ []
 quiet-step : (T : Table) (service dialogue : ℕ) (r : Request) → spacesOf r .rows ≡ 0 → Quiet (step T (OnDialogue service dialogue r))
 unfolding step requested stored
 quiet-step T service dialogue r e =
-    holds-lt Quiet service services _ _ (holds-b Quiet _ _ _ (quiet-request dialogue (placeAt T (placeOf dialogue)) r e) refl) refl
+    whether-lt Quiet service services _ _ (whether-b Quiet _ _ _ (quiet-request dialogue (placeAt T (placeOf dialogue)) r e) refl) refl
 
 quiet-open : (T : Table) (service : ℕ) → Quiet (step T (Open service))
 unfolding step opened
-quiet-open T service = holds-lt Quiet service services _ _ (holds-b Quiet _ _ _ refl refl) refl
+quiet-open T service = whether-lt Quiet service services _ _ (whether-b Quiet _ _ _ refl refl) refl
 
 -- the rows of a call that isn't refused for a size fit into the row space
 stands-rows : (l : Lent) (n : Spaces) → standing l n ≡ 0 → n .rows ≤ length (l .rows)
@@ -168,11 +166,11 @@ stands-rows l n e =
 few-rows : (rs : List Row) (l : Lent) → rs ≡ [] → 32 * length rs ≤ length (l .rows)
 few-rows rs l e = omega (arith, ap (λ (x : List Row). length x) e)
 
-rows-fit : (T : Table) (l : Lent) (c : Call) → MessageOctets c → standing l (spacesFor c) ≡ 0 → 32 * length (step T c .rows) ≤ length (l .rows)
+rows-fit : (T : Table) (l : Lent) (c : Call) → WellFormed c → standing l (spacesFor c) ≡ 0 → 32 * length (step T c .rows) ≤ length (l .rows)
 rows-fit T l (Open service) o e = few-rows _ l (quiet-open T service)
 rows-fit T l (Receive service s) o e = omega (arith, step-fit T (Receive service s) o .few, stands-rows l (spacesFor (Receive service s)) e)
 rows-fit T l (OnDialogue service dialogue r) o e =
-    by-space (spacesOf r .rows) refl (omega (arith, step-fit T (OnDialogue service dialogue r) tt .few)) (stands-rows l (spacesOf r) e) (either r)
+    by-space (spacesOf r .rows) refl (omega (arith, step-fit T (OnDialogue service dialogue r) o .few)) (stands-rows l (spacesOf r) e) (either r)
   where
     either : (r : Request) → (spacesOf r .rows ≡ 0) ⊎ (spacesOf r .rows ≡ 4096)
     either (Invoke id linked class op par) = inl refl
@@ -195,36 +193,10 @@ rows-fit T l (OnDialogue service dialogue r) o e =
     by-space n q few h (inl z) = few-rows _ l (quiet-step T service dialogue r z)
     by-space n q few h (inr z) = omega arith
 
--- the octets that a call is given are octets
-abbrev pub RequestOctets : Request → Type 0
-RequestOctets (Invoke id linked class op par) = (id < 256) × Octets op × Octets par
-RequestOctets (Result tag id op par) = (id < 256) × Octets op × Octets par
-RequestOctets (Error id err par) = (id < 256) × Octets err × Octets par
-RequestOctets (UserReject id p) = id < 256
-RequestOctets (Cancel id) = Unit
-RequestOctets Begin = Unit
-RequestOctets Continue = Unit
-RequestOctets End = Unit
-RequestOctets Prearranged = Unit
-RequestOctets (Abort portion) = Octets portion
-RequestOctets Unidirectional = Unit
-RequestOctets (Timeout id) = Unit
-RequestOctets (RejectTimeout id) = Unit
-RequestOctets NoReaction = Unit
-
-abbrev pub CallOctets : Call → Type 0
-CallOctets (Open service) = Unit
-CallOctets (OnDialogue service dialogue r) = RequestOctets r
-CallOctets (Receive service s) = Octets s
-
-message-octets : (c : Call) → CallOctets c → MessageOctets c
-message-octets (Open service) o = tt
-message-octets (OnDialogue service dialogue r) o = tt
-message-octets (Receive service s) o = o
-
-abbrev pub AllOctets : List Made → Type 0
-AllOctets [] = Unit
-AllOctets (m ∷ ms) = CallOctets (m .call) × AllOctets ms
+-- calls as a host can make them: octets are below 256, IDs are octets
+abbrev pub AllFormed : List Made → Type 0
+AllFormed [] = Unit
+AllFormed (m ∷ ms) = WellFormed (m .call) × AllFormed ms
 
 -- WHERE A HISTORY LEADS: a table that keeps the rules, with the same shares; begun less ended is what it holds
 pub record Reached (T : Table) (ms : List Made) : Type 0 where
@@ -234,70 +206,71 @@ pub record Reached (T : Table) (ms : List Made) : Type 0 where
   pub shares : (to .guarantees ≡ T .guarantees) × (to .limits ≡ T .limits)
   pub counts : (s : ℕ) → begunOf s (encode T) ms + held (T .places) s ≡ endedOf s (encode T) ms + held (to .places) s
 
--- THE STEP KEEPS THE RULES, from here on taken as `kept`
-module _ (kept : (T : Table) → Fine T → (c : Call) → CallOctets c → Fine (step T c .table)) where
-  pub next : (T : Table) → Fine T → (m : Made) → CallOctets (m .call) → Next T m
-  unfolding outcome
-  next T f m o = stand (standing l (spacesFor (m .call))) refl
-    where
-      l : Lent
-      l = record { table = encode T; rows = m .rows; space = m .space }
+pub next : (T : Table) → Fine T → (m : Made) → WellFormed (m .call) → Next T m
+unfolding outcome
+next T f m o = stand (standing l (spacesFor (m .call))) refl
+  where
+    l : Lent
+    l = record { table = encode T; rows = m .rows; space = m .space }
 
-      same : step (view (encode T)) (m .call) ≡ step T (m .call)
-      same = ap (λ (U : Table). step U (m .call)) (view-encode T f)
+    same : step (view (encode T)) (m .call) ≡ step T (m .call)
+    same = ap (λ (U : Table). step U (m .call)) (view-encode T f)
 
-      -- an outcome, and what follows from it
-      by : (g : Outcome) → gave (encode T) m ≡ g → (U : Table) → Fine U → g .lent .table ≡ encode U → (U .guarantees ≡ T .guarantees) × (U .limits ≡ T .limits)
-          → ((s : ℕ) → ifEq (serviceOf (m .call)) s (begunBy (m .call) g) 0 + held (T .places) s ≡ ifEq (serviceOf (m .call)) s (endedBy (m .call) g) 0 + held (U .places) s)
-          → Next T m
-      by g e U u q v w = record {
-        to = U;
-        fine = u;
-        table = ap (λ (x : Outcome). x .lent .table) e ∙ q;
-        shares = v;
-        counts = subst (λ (x : Outcome). (s : ℕ) → ifEq (serviceOf (m .call)) s (begunBy (m .call) x) 0 + held (T .places) s ≡ ifEq (serviceOf (m .call)) s (endedBy (m .call) x) 0 + held (U .places) s) (sym e) w;
-      }
+    -- an outcome, and what follows from it
+    by : (g : Outcome) → gave (encode T) m ≡ g → (U : Table) → Fine U → g .lent .table ≡ encode U → (U .guarantees ≡ T .guarantees) × (U .limits ≡ T .limits)
+        → ((s : ℕ) → ifEq (serviceOf (m .call)) s (begunAt (m .call) g) 0 + held (T .places) s ≡ ifEq (serviceOf (m .call)) s (endedAt (m .call) g) 0 + held (U .places) s)
+        → Next T m
+    by g e U u q v w = record {
+      to = U;
+      fine = u;
+      table = ap (λ (x : Outcome). x .lent .table) e ∙ q;
+      shares = v;
+      counts = subst (λ (x : Outcome). (s : ℕ) → ifEq (serviceOf (m .call)) s (begunAt (m .call) x) 0 + held (T .places) s ≡ ifEq (serviceOf (m .call)) s (endedAt (m .call) x) 0 + held (U .places) s) (sym e) w;
+    }
 
-      nothing : (n : ℕ) (s : ℕ) → ifEq (serviceOf (m .call)) s (begunBy (m .call) (refusedBy (suc n) l)) 0 + held (T .places) s
-          ≡ ifEq (serviceOf (m .call)) s (endedBy (m .call) (refusedBy (suc n) l)) 0 + held (T .places) s
-      nothing n s = ap (λ (k : ℕ). ifEq (serviceOf (m .call)) s k 0 + held (T .places) s) (refused-begins (m .call) n l ∙ sym (refused-ends (m .call) n l))
+    nothing : (n : ℕ) (s : ℕ) → ifEq (serviceOf (m .call)) s (begunAt (m .call) (refusedBy (suc n) l)) 0 + held (T .places) s
+        ≡ ifEq (serviceOf (m .call)) s (endedAt (m .call) (refusedBy (suc n) l)) 0 + held (T .places) s
+    nothing n s = ap (λ (k : ℕ). ifEq (serviceOf (m .call)) s k 0 + held (T .places) s) (refused-none (m .call) n l)
 
-      done : (g : Out) → g ≡ step T (m .call) → g .answer ≡ 0 → standing l (spacesFor (m .call)) ≡ 0 → gave (encode T) m ≡ given l g → Next T m
-      done g e z st w =
-          by (given l g) w (g .table) (subst (λ (x : Out). Fine (x .table)) (sym e) (kept T f (m .call) o)) refl (subst (SameShares T) (sym e) (step-shares T (m .call)))
-          (for-each (serviceOf (m .call)) (begunBy (m .call) (given l g)) (endedBy (m .call) (given l g)) T (g .table) moved)
-        where
-          fit : Fit (g .rows)
-          fit = subst (λ (x : Out). Fit (x .rows)) (sym e) (step-fit T (m .call) (message-octets (m .call) o))
+    done : (g : Out) → g ≡ step T (m .call) → g .answer ≡ 0 → standing l (spacesFor (m .call)) ≡ 0 → gave (encode T) m ≡ given l g → Next T m
+    done g e z st w =
+        by (given l g) w (g .table) (subst (λ (x : Out). Fine (x .table)) (sym e) (left .fine)) refl
+        (subst (λ (x : Out). (x .table .guarantees ≡ T .guarantees) × (x .table .limits ≡ T .limits)) (sym e) (left .guarantees, left .limits)) counts
+      where
+        left : Left T (m .call) (step T (m .call))
+        left = step-left T f (m .call) o
 
-          room : 32 * length (g .rows) ≤ length (l .rows)
-          room = subst (λ (x : Out). 32 * length (x .rows) ≤ length (l .rows)) (sym e) (rows-fit T l (m .call) (message-octets (m .call) o) st)
+        fit : Fit (g .rows)
+        fit = subst (λ (x : Out). Fit (x .rows)) (sym e) (step-fit T (m .call) o)
 
-          moved : Moved (serviceOf (m .call)) (begunBy (m .call) (given l g)) (endedBy (m .call) (given l g)) (T .places) (g .table .places)
-          moved =
-              subst (λ (b : ℕ). Moved (serviceOf (m .call)) b (endedBy (m .call) (given l g)) (T .places) (g .table .places)) (sym (done-begins l g z fit room (m .call)))
-              (subst (λ (b : ℕ). Moved (serviceOf (m .call)) (begunIn (m .call) g) b (T .places) (g .table .places)) (sym (done-ends l g z fit room (m .call)))
-              (subst (λ (x : Out). Moved (serviceOf (m .call)) (begunIn (m .call) x) (endedIn (m .call) x) (T .places) (x .table .places)) (sym e) (step-counts T f (m .call))))
+        room : 32 * length (g .rows) ≤ length (l .rows)
+        room = subst (λ (x : Out). 32 * length (x .rows) ≤ length (l .rows)) (sym e) (rows-fit T l (m .call) o st)
 
-      answered : (n : ℕ) → step T (m .call) .answer ≡ n → standing l (spacesFor (m .call)) ≡ 0 → gave (encode T) m ≡ shown 0 l (step T (m .call)) → Next T m
-      answered zero z st w = done (step T (m .call)) refl z st (w ∙ sym (eq _ _ _ _ z refl))
-      answered (suc n) z st w =
-          by (refusedBy (suc n) l) (w ∙ sym (ne _ _ _ _ (λ h. omega (arith, z, h)) (ap (λ (k : ℕ). refusedBy k l) (sym z)))) T f refl (refl, refl) (nothing n)
+        counts : (s : ℕ) → ifEq (serviceOf (m .call)) s (begunAt (m .call) (given l g)) 0 + held (T .places) s ≡ ifEq (serviceOf (m .call)) s (endedAt (m .call) (given l g)) 0 + held (g .table .places) s
+        counts s =
+            ap (λ (k : ℕ). ifEq (serviceOf (m .call)) s k 0 + held (T .places) s) (done-begins l g z fit room (m .call))
+            ∙ subst (λ (x : Out). ifEq (serviceOf (m .call)) s (begunBy (m .call) x) 0 + held (T .places) s ≡ ifEq (serviceOf (m .call)) s (endedBy (m .call) x) 0 + held (x .table .places) s) (sym e) (step-counted T f (m .call) o s)
+            ∙ ap (λ (k : ℕ). ifEq (serviceOf (m .call)) s k 0 + held (g .table .places) s) (sym (done-ends l g z fit room (m .call)))
 
-      stand : (n : ℕ) → standing l (spacesFor (m .call)) ≡ n → Next T m
-      stand zero e = answered (step T (m .call) .answer) refl e (ap (λ (k : ℕ). shown k l (step (view (encode T)) (m .call))) e ∙ ap (shown 0 l) same)
-      stand (suc n) e = by (refusedBy (suc n) l) (ap (λ (k : ℕ). shown k l (step (view (encode T)) (m .call))) e) T f refl (refl, refl) (nothing n)
+    answered : (n : ℕ) → step T (m .call) .answer ≡ n → standing l (spacesFor (m .call)) ≡ 0 → gave (encode T) m ≡ shown 0 l (step T (m .call)) → Next T m
+    answered zero z st w = done (step T (m .call)) refl z st (w ∙ sym (eq _ _ _ _ z refl))
+    answered (suc n) z st w =
+        by (refusedBy (suc n) l) (w ∙ sym (ne _ _ _ _ (λ h. omega (arith, z, h)) (ap (λ (k : ℕ). refusedBy k l) (sym z)))) T f refl (refl, refl) (nothing n)
 
-  -- ANY LIST OF CALLS, wrong ones among them
-  pub history : (T : Table) → Fine T → (ms : List Made) → AllOctets ms → Reached T ms
-  history T f [] o = record { to = T; fine = f; table = refl; shares = (refl, refl); counts = λ s. refl }
-  history T f (m ∷ ms) o = on (next T f m (o .0)) (history (next T f m (o .0) .to) (next T f m (o .0) .fine) ms (o .1))
-    where
-      on : (n : Next T m) → Reached (n .to) ms → Reached T (m ∷ ms)
-      on n r = record {
-        to = r .to;
-        fine = r .fine;
-        table = ap (λ (t : List ℕ). after t ms) (n .table) ∙ r .table;
-        shares = (r .shares .0 ∙ n .shares .0, r .shares .1 ∙ n .shares .1);
-        counts = λ s. omega (arith, n .counts s, r .counts s, ap (λ (t : List ℕ). begunOf s t ms) (n .table), ap (λ (t : List ℕ). endedOf s t ms) (n .table));
-      }
+    stand : (n : ℕ) → standing l (spacesFor (m .call)) ≡ n → Next T m
+    stand zero e = answered (step T (m .call) .answer) refl e (ap (λ (k : ℕ). shown k l (step (view (encode T)) (m .call))) e ∙ ap (shown 0 l) same)
+    stand (suc n) e = by (refusedBy (suc n) l) (ap (λ (k : ℕ). shown k l (step (view (encode T)) (m .call))) e) T f refl (refl, refl) (nothing n)
+
+-- ANY LIST OF CALLS, wrong ones among them
+pub history : (T : Table) → Fine T → (ms : List Made) → AllFormed ms → Reached T ms
+history T f [] o = record { to = T; fine = f; table = refl; shares = (refl, refl); counts = λ s. refl }
+history T f (m ∷ ms) o = on (next T f m (o .0)) (history (next T f m (o .0) .to) (next T f m (o .0) .fine) ms (o .1))
+  where
+    on : (n : Next T m) → Reached (n .to) ms → Reached T (m ∷ ms)
+    on n r = record {
+      to = r .to;
+      fine = r .fine;
+      table = ap (λ (t : List ℕ). after t ms) (n .table) ∙ r .table;
+      shares = (r .shares .0 ∙ n .shares .0, r .shares .1 ∙ n .shares .1);
+      counts = λ s. omega (arith, n .counts s, r .counts s, ap (λ (t : List ℕ). begunOf s t ms) (n .table), ap (λ (t : List ℕ). endedOf s t ms) (n .table));
+    }

@@ -1,9 +1,5 @@
-pub mod Counted
-pub mod Changed
-pub mod Steps
 pub mod Rows
 pub mod Fits
-pub mod Shares
-pub mod History
 pub mod Begins
+pub mod History
 pub mod Demands
