@@ -1,4 +1,7 @@
--- DEMAND 3, over every history of calls at octets. Assumes nothing.
+-- THE DEMANDS, on the outcomes that the contracts of the calls name. Assumes nothing.
+-- A host's history of C calls is a list of `Made`: the call with its arguments, and the row and message spaces lent with it; each
+-- is made on the octets that the call before left (`after`). What a call gives is `outcome`, which its contract names; nothing
+-- here speaks of another engine. Left to the host: that it hands the table on unaltered, and that spaces don't overlap.
 use mathlib.Core.Path.{_≡_, refl, sym, ap, subst, _∙_}
 use mathlib.Core.Bool.{Bool, true, false}
 use mathlib.Core.List.{List, [], _∷_}
@@ -6,7 +9,7 @@ use mathlib.Core.Logic.{_⊎_, inl, inr, _↔_}
 use Prim.Native.Nat.{ℕ, zero, suc, _+_, _-_, _≤_, _<_}
 use native.Mathlib.Omega.{arith}
 use lib.ListN.{length, getD}
-use Rattle.laws.specs.If.{ifLt, ifEq, ifB, lt, eq, ge, yes, no}
+use Rattle.laws.specs.If.{ifLt, ifEq, ifB, lt, eq, ge, yes, no, by-eq}
 use Rattle.paper.specs.Sizes.{placesInAll, services}
 use Rattle.paper.specs.Shares.{gives, others, free, sharesFit}
 use Rattle.paper.specs.Calls.{Table, Call, Out, guaranteeOf, limitOf, held, mayBegin, opened, openedAt, lowestFree, refuse, shows, octetsAt, beginAt, step, freshTable}
@@ -14,15 +17,33 @@ use Rattle.paper.specs.Messages.{messageOf, isSound, beginTag}
 use Rattle.paper.specs.Writing.{causeAbortOctets}
 use Rattle.paper.specs.Calls.Call.{Open, OnDialogue, Receive}
 use Rattle.paper.specs.Layout.{encode, view}
-use Rattle.paper.specs.Outcome.{Lent, Outcome, standing, given, shown, outcome, noSpace}
+use Rattle.paper.specs.Outcome.{Lent, Outcome, spacesFor, standing, given, shown, refusedBy, outcome, noSpace}
 use Rattle.facts.specs.Fine.{Fine}
 use Rattle.facts.specs.Whole.{view-encode}
-use Rattle.facts.specs.Ready.{encode-stands}
+use Rattle.facts.specs.Ready.{Ready, encode-stands}
+use Rattle.paper.specs.Rules.{rules}
+use Rattle.kept.specs.Steps.{WellFormed}
+use Rattle.kept.specs.Tables.{outcome-ready, ready-rules}
 use Rattle.shares.specs.Share.{Shares, Sound, below-given, refused-at-limit, refused-full, refused-why}
 use Rattle.kept.specs.Shared.{shares as fine-shares, sound as fine-sound}
 use Rattle.kept.specs.Fresh.{fresh-fine, fresh-none}
 use Rattle.demands.specs.Begins.{begin-step}
 use Rattle.demands.specs.History.{Made, gave, after, begunOf, endedOf, AllFormed, Reached, history}
+
+-- DEMAND 1: "a refusal changes no octet of table, rows or message space", for all octets, numbers and spaces lent
+pub refusal-changes-nothing : (l : Lent) (c : Call) → (outcome l c .answer ≡ 0 → ⊥) → outcome l c .lent ≡ l
+unfolding outcome
+refusal-changes-nothing l c = stand (standing l (spacesFor c))
+  where
+    stand : (n : ℕ) → (shown n l (step (view (l .table)) c) .answer ≡ 0 → ⊥) → shown n l (step (view (l .table)) c) .lent ≡ l
+    stand (suc n) h = refl
+    stand zero h =
+        by-eq {r = shown 0 l (step (view (l .table)) c)} (step (view (l .table)) c .answer) 0 (given l (step (view (l .table)) c)) (refusedBy (step (view (l .table)) c .answer) l) refl
+        (λ z e. absurd (h (ap (λ (x : Outcome). x .answer) e))) (λ z e. ap (λ (x : Outcome). x .lent) e)
+
+-- DEMAND 2, the table: what a call leaves of a table that keeps the rules keeps them, so that a table handed on is never refused by 2
+pub never-broken : (l : Lent) (c : Call) → WellFormed c → Ready (l .table) → rules (outcome l c .lent .table) ≡ true
+never-broken l c w r = ready-rules (outcome l c .lent .table) (outcome-ready l c w r)
 
 -- an open by a service, as a host makes it
 abbrev pub asks : ℕ → Made
