@@ -12,7 +12,9 @@ use Rattle.paper.specs.Shares.{gives}
 use Rattle.paper.specs.Dialogues.{Place}
 use Rattle.paper.specs.Calls.{Table, placeAt, guaranteeOf, limitOf, held, mayBegin, lowestFree, owns}
 use Rattle.paper.specs.Layout.{flag, view}
-use Rattle.facts.specs.Fine.{FinePlace}
+use Rattle.paper.specs.declared.Control.{Control}
+use Rattle.facts.specs.Fine.{FinePlace, Storable}
+use Rattle.places.specs.Storing.{Storing}
 use Rattle.facts.specs.Ready.{Ready}
 use Rattle.facts.specs.Owners.{owned-is}
 use Rattle.facts.specs.Counts.{free-there, lowest-is-free}
@@ -126,3 +128,7 @@ module _ (t : List ℕ) (s d : ℕ) where
                     };
               };
         }
+
+-- a control record that can be stored at a dialogue's place
+pub used-storing : {t : List ℕ} {p : ℕ} → Used t p → {c : Control} → Storable c → (c .state ≡ 0 → ⊥) → Storing 0 t p c
+used-storing u f n = record { ready = u .ready; small = u .small; told = u .told; control = f; state = n }

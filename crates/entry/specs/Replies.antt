@@ -1,6 +1,6 @@
 -- THE REPLY of a call, and how an outcome is shown by it. Assumes nothing.
 use mathlib.Core.Path.{_≡_, refl, sym, ap, _∙_}
-use mathlib.Core.List.{List}
+use mathlib.Core.List.{List, []}
 use Prim.Native.Nat.{ℕ, zero, suc, _<_}
 use native.Mathlib.Omega.{arith}
 use Rattle.laws.specs.If.{eq, ne}
@@ -22,6 +22,20 @@ told {o} {q} {r} e d f = record {
   long = ap (λ (x : Reply). x .length) d ∙ ap (λ (x : Outcome). x .length) (sym e);
   named = ap (λ (x : Reply). x .dialogue) d ∙ ap (λ (x : Outcome). x .dialogue) (sym e);
   left = f ∙ ap (λ (x : Outcome). x .lent) (sym e);
+}
+
+-- what is lent where a call takes no space
+abbrev pub only : List ℕ → Lent
+only t = record { table = t; rows = []; space = [] }
+
+-- a table that another call left as it was
+pub left-as : {o : Outcome} {r : Reply} {l : Lent} {t : List ℕ} → t ≡ l .table → Told o r l → Told o r (record { table = t; rows = l .rows; space = l .space })
+left-as {l = l} e g = record {
+  answered = g .answered;
+  rowed = g .rowed;
+  long = g .long;
+  named = g .named;
+  left = ap (λ (t : List ℕ). record { table = t; rows = l .rows; space = l .space }) e ∙ g .left;
 }
 
 pub lent-same : (m n : Lent) → m .table ≡ n .table → m .rows ≡ n .rows → m .space ≡ n .space → m ≡ n
