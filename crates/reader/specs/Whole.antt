@@ -134,3 +134,38 @@ reads-all s octets n h =
     (λ l q. by-eq _ _ _ _ q
     (λ f q. reads-sound s octets z l n h f ∙ sym q)
     (λ f q. read-none s n (ne _ _ _ _ z (ge _ _ _ _ l (ne _ _ _ _ f refl))) ∙ sym q)))
+
+-- WHERE A PIECE LIES: inside the message, its parameter inside it; and the cursor goes up, so that a reading ends
+pub record PieceLies (k at : ℕ) (c : Component) (next : ℕ) : Type 0 where
+  pub starts : at < c .stop
+  pub ends : c .stop ≤ 512
+  pub order : c .par ≤ c .parstop
+  pub up : k < next
+  pub most : next ≤ 525312
+
+module _ (s : List ℕ) (octets : (i : ℕ) → getD s i 0 < 256) (k at : ℕ) (c : Component) (next : ℕ) where
+  piece-in : (lim p : ℕ) → k < lim * 1024 + p + 1 → Part at c next ≡ pieceIn s lim p → PieceLies k at c next
+  unfolding pieceIn pieceOf
+  piece-in lim p h q =
+      by-lt _ _ _ _ q (λ a q. none q)
+      (λ a q. by-lt _ _ _ _ q (λ b q. none q)
+      (λ b q. by-lt _ _ _ _ q
+      (λ d q. by-eq _ _ _ _ q
+      (λ f q.
+      let i : c ≡ componentAt s lim p = cc in
+      let w : ComponentIn (p + 5) lim c = component-in s octets lim p c i in
+      let g : c .fault ≡ 3 = ap (λ (c : Component). c .fault) i ∙ f in
+      let j : at ≡ p = cc in
+      let x : next ≡ lim * 1024 + c .stop = cc in
+      let l : p + 5 ≤ c .stop = w .long g in
+      record { starts = omega arith; ends = omega (arith, w .ends); order = w .order; up = omega arith; most = omega (arith, w .ends) })
+      (λ f q. none q))
+      (λ d q. none q)))
+    where
+      none : Part at c next ≡ End → PieceLies k at c next
+      none q = let z : _≡_ {A = ℕ} 0 1 = cc in absurd (omega arith)
+
+  pub piece-lies : (r : Piece) → r ≡ pieceAt s k → r ≡ Part at c next → PieceLies k at c next
+  unfolding pieceAt
+  piece-lies r e p =
+      by-eq _ _ _ _ (sym p ∙ e) (λ z q. piece-in (firstCursor s / 1024) (firstCursor s % 1024) (omega arith) q) (λ z q. piece-in (k / 1024) (k % 1024) (omega arith) q)
