@@ -1,0 +1,91 @@
+// "a reader that stays on one message and gives its components one after another up to a syntax fault" (01, "Rows").
+ghost use mathlib.Core.Path.{_≡_};
+ghost use Rattle.reader.specs.Read.{firstCursor, pieceIn, pieceAt};
+use paper::Component;
+
+// The message, and the cursor: 0 at its start, else 1024 times where the components end, plus where the next one starts.
+pub struct Reader<'a> {
+    pub msg: &'a [u8],
+    pub at: usize,
+}
+
+pub enum Piece {
+    // where it starts, the component, and the cursor for the next one
+    Part(usize, Component, usize),
+    End,
+}
+
+// The cursor of the first component, 0 for none: "none where the message is refused by 4, dropped for its form or at fault with cause 0 or 2".
+pub fn first_cursor(s: &[u8]) -> usize
+    ensures { λ r. ⌜ r ≡ firstCursor (now (s .entry)) ⌝ }
+{
+    if s.len() == 0 {
+        return 0;
+    }
+    if s.len() > 512 {
+        return 0;
+    }
+    let m = messages::message_of(s);
+    if m.fault != 255 {
+        return 0;
+    }
+    if m.from == 0 {
+        return 0;
+    }
+    m.to * 1024 + m.from
+}
+
+// The component at a position, where they end at lim.
+fn piece_in(s: &[u8], lim: usize, at: usize) -> Piece
+    ensures { λ r. ⌜ r ≡ pieceIn (now (s .entry)) lim at ⌝ }
+{
+    if s.len() > 512 {
+        return Piece::End;
+    }
+    if s.len() < lim {
+        return Piece::End;
+    }
+    if at >= lim {
+        return Piece::End;
+    }
+    let c = components::component_at(s, lim, at);
+    if c.fault != 3 {
+        return Piece::End;
+    }
+    Piece::Part(at, c, lim * 1024 + c.stop)
+}
+
+// The component at a cursor. The message is read at its start only.
+pub fn piece_at(msg: &[u8], at: usize) -> Piece
+    ensures { λ r. ⌜ r ≡ pieceAt (now (msg .entry)) at ⌝ }
+{
+    if at == 0 {
+        let k = first_cursor(msg);
+        return piece_in(msg, k / 1024, k % 1024);
+    }
+    piece_in(msg, at / 1024, at % 1024)
+}
+
+pub fn new<'a>(msg: &'a [u8]) -> Reader<'a>
+    ensures { λ r. ⌜ (r .msg ≡ msg .entry) × (r .at ≡ 0) ⌝ }
+{
+    Reader { msg, at: 0 }
+}
+
+pub fn next<'a>(r: Reader<'a>) -> Piece
+    ensures { λ p. ⌜ p ≡ pieceAt (now (r .entry .msg)) (r .entry .at) ⌝ }
+{
+    piece_at(r.msg, r.at)
+}
+
+pub fn moved<'a>(r: Reader<'a>, at: usize) -> Reader<'a>
+    ensures { λ q. ⌜ (q .msg ≡ r .entry .msg) × (q .at ≡ at) ⌝ }
+{
+    Reader { msg: r.msg, at }
+}
+
+pub fn first(msg: &[u8]) -> Piece
+    ensures { λ r. ⌜ r ≡ pieceAt (now (msg .entry)) 0 ⌝ }
+{
+    next(new(msg))
+}
