@@ -1,0 +1,25 @@
+use borrow.Author.Needs.{needs}
+use Rattle.receiving.proofs.components_shown.Statement.{statement}
+use Rattle.receiving.proofs.components_shown.Tie as tie
+use Rattle.receiving.proofs.components_shown.Reads as reads
+use Rattle.receiving.proofs.components_shown.Lts as lts
+use Rattle.shows.proofs.show.Reads as show-reads
+
+-- src/lib.rt:162:9
+returns : tie.Need-returns
+returns c = ?
+
+-- src/lib.rt:167:5
+show-requires : tie.Need-show-requires
+show-requires c κs = search needs
+
+-- src/lib.rt:167:5
+same-length : tie.Need-same-length
+same-length c = search needs
+
+-- src/lib.rt:167:5
+returns-2 : tie.Need-returns-2
+returns-2 c = ?
+
+pub components-shown-spec : {M : Type 1} → statement M
+components-shown-spec = tie.close (tie.spec returns show-requires same-length returns-2)
