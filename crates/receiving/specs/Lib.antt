@@ -1,1 +1,2 @@
 pub mod Receives
+pub mod Room

@@ -96,7 +96,10 @@ fn assigned(t: &[u8], service: u32, s: &[u8], m: Message) -> bool
     let me = number_at(s, d.start);
     if places::owner(t, service, me) {
         let p = (me / 16777216) as usize;
-        return places::state_at(t, p) != 1;
+        if places::state_at(t, p) == 1 {
+            return false;
+        }
+        return true;
     }
     return false;
 }

@@ -1,3 +1,4 @@
+use Rattle.receiving.proofs.Laws.{abort-leaves}
 use borrow.Author.Needs.{needs}
 use Rattle.receiving.proofs.abort_received.Statement.{statement}
 use Rattle.receiving.proofs.abort_received.Tie as tie
@@ -33,7 +34,7 @@ same-length-2 c = search needs
 
 -- src/lib.rt:329:1
 returns : tie.Need-returns
-returns c = ?
+returns c = abort-leaves _ _ _ _ _ _ (c .before .before .before .before .before .before .write-row .ensures .0) (c .before .before .free-at .ensures) _ (c .before .before .before .before .before .before .before .before .abort-row .ensures)
 
 pub abort-received-spec : {M : Type 1} → statement M
 abort-received-spec =

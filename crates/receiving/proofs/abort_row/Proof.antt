@@ -1,3 +1,5 @@
+use native.Mathlib.Omega.{arith}
+use Rattle.laws.specs.If.{eq, ne}
 use borrow.Author.Needs.{needs}
 use Rattle.receiving.proofs.abort_row.Statement.{statement}
 use Rattle.receiving.proofs.abort_row.Tie as tie
@@ -11,7 +13,7 @@ dialogue-row-requires c κs = search needs
 
 -- src/lib.rt:324:9
 returns : tie.Need-returns
-returns c = ?
+returns c = eq _ _ _ _ (omega arith) (c .dialogue-row .ensures)
 
 -- src/lib.rt:326:5
 dialogue-row-requires-2 : tie.Need-dialogue-row-requires-2
@@ -19,7 +21,7 @@ dialogue-row-requires-2 c κs = search needs
 
 -- src/lib.rt:326:5
 returns-2 : tie.Need-returns-2
-returns-2 c = ?
+returns-2 c = ne _ _ _ _ (λ h. omega arith) (c .dialogue-row2 .ensures)
 
 pub abort-row-spec : {M : Type 1} → statement M
 abort-row-spec =

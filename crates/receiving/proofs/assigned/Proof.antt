@@ -1,3 +1,9 @@
+use native.Mathlib.Omega.{arith}
+use mathlib.Core.Path.{refl, sym, _∙_}
+use Rattle.laws.specs.If.{ne}
+use Rattle.paper.specs.Calls.{assigned}
+use Rattle.facts.specs.Owners.{owned-is}
+use Rattle.receiving.proofs.Laws.{assigned-open, assigned-other, assigned-none}
 use borrow.Author.Needs.{needs}
 use Rattle.receiving.proofs.assigned.Statement.{statement}
 use Rattle.receiving.proofs.assigned.Tie as tie
@@ -9,7 +15,8 @@ use Rattle.receiving.proofs.number_at.Reads as number-at-reads
 
 -- src/lib.rt:94:9
 returns : tie.Need-returns
-returns c = ?
+unfolding assigned
+returns c = ne _ _ _ _ (λ h. omega arith) refl
 
 -- src/lib.rt:96:9
 number-at-requires : tie.Need-number-at-requires
@@ -23,17 +30,21 @@ owner-requires c κs = search needs
 cast-p : tie.Need-cast-p
 cast-p c = search needs
 
--- src/lib.rt:99:16
+-- src/lib.rt:99:12
 state-at-requires : tie.Need-state-at-requires
-state-at-requires c κs = ?
+state-at-requires c κs = let o = owned-is _ _ _ (sym (c .before .owner .ensures) ∙ c .if2 .taken) in (o .small, c .before .before .before .before .before .before .before .before .pre .0 .long)
 
--- src/lib.rt:99:9
+-- src/lib.rt:100:13
 returns-2 : tie.Need-returns-2
-returns-2 c = ?
+returns-2 c = assigned-open _ _ _ _ (omega arith) _ (c .before .before .before .before .number-at .ensures) (sym (c .before .before .before .owner .ensures) ∙ c .before .before .if2 .taken) (sym (c .before .state-at .ensures) ∙ c .if3 .taken)
 
--- src/lib.rt:101:5
+-- src/lib.rt:102:9
 returns-3 : tie.Need-returns-3
-returns-3 c = ?
+returns-3 c = assigned-other _ _ _ _ (omega arith) _ (c .before .before .before .before .number-at .ensures) (sym (c .before .before .before .owner .ensures) ∙ c .before .before .if2 .taken) (λ h. c .if3 .left (c .before .state-at .ensures ∙ h))
+
+-- src/lib.rt:104:5
+returns-4 : tie.Need-returns-4
+returns-4 c = assigned-none _ _ _ _ (omega arith) _ (c .before .before .number-at .ensures) (sym (c .before .owner .ensures) ∙ c .if2 .left)
 
 pub assigned-spec : {M : Type 1} → statement M
 assigned-spec =
@@ -45,4 +56,5 @@ assigned-spec =
     cast-p
     state-at-requires
     returns-2
-    returns-3)
+    returns-3
+    returns-4)

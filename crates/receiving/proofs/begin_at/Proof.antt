@@ -1,3 +1,4 @@
+use Rattle.receiving.proofs.Laws.{begun-storing, begin-leaves}
 use borrow.Author.Needs.{needs}
 use Rattle.receiving.proofs.begin_at.Statement.{statement}
 use Rattle.receiving.proofs.begin_at.Tie as tie
@@ -40,7 +41,7 @@ shown-requires c κs = search needs
 
 -- src/lib.rt:236:5
 begin-at-requires : tie.Need-begin-at-requires
-begin-at-requires c κs = ?
+begin-at-requires c κs = let p = c .before .before .before .before .before .before .before .before .before .before .before .before .before .before .before .before .before .pre in begun-storing _ _ _ (c .before .before .before .before .shown .result) _ _ _ _ _ (c .before .before .before .before .before .before .before .before .peer-of .ensures) (c .before .before .before .before .before .before .begun .ensures) (p .0) (p .2) (c .before .before .before .before .shown .ensures .control)
 
 -- src/lib.rt:237:5
 cast-result : tie.Need-cast-result
@@ -56,7 +57,7 @@ same-length-2 c = search needs
 
 -- src/lib.rt:225:1
 returns : tie.Need-returns
-returns c = ?
+returns c = begin-leaves _ _ _ (c .before .before .before .before .before .before .before .before .shown .result) _ _ _ _ _ (c .before .before .before .before .before .before .before .before .before .before .before .before .peer-of .ensures) (c .before .before .before .before .before .before .before .before .before .before .begun .ensures) _ _ _ _ (c .before .before .before .before .before .before .before .before .before .before .before .before .before .before .before .before .turn-at .ensures .0) (c .before .before .before .before .before .before .before .before .before .before .before .before .before .before .id-at .ensures) (c .before .before .before .before .before .before .before .before .shown .ensures) (c .before .before .before .begin-at .ensures)
 
 pub begin-at-spec : {M : Type 1} → statement M
 begin-at-spec =

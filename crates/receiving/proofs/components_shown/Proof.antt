@@ -1,3 +1,5 @@
+use native.Mathlib.Omega.{arith}
+use Rattle.receiving.proofs.Laws.{shows-none, shows-some}
 use borrow.Author.Needs.{needs}
 use Rattle.receiving.proofs.components_shown.Statement.{statement}
 use Rattle.receiving.proofs.components_shown.Tie as tie
@@ -7,7 +9,7 @@ use Rattle.shows.proofs.show.Reads as show-reads
 
 -- src/lib.rt:162:9
 returns : tie.Need-returns
-returns c = ?
+returns c = shows-none _ _ _ _ _ _ (omega arith)
 
 -- src/lib.rt:167:5
 show-requires : tie.Need-show-requires
@@ -19,7 +21,7 @@ same-length c = search needs
 
 -- src/lib.rt:167:5
 returns-2 : tie.Need-returns-2
-returns-2 c = ?
+returns-2 c = shows-some _ _ _ _ _ _ _ _ (λ h. omega arith) (c .before .before .show .ensures)
 
 pub components-shown-spec : {M : Type 1} → statement M
 components-shown-spec = tie.close (tie.spec returns show-requires same-length returns-2)

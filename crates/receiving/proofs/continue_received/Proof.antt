@@ -1,3 +1,4 @@
+use Rattle.receiving.proofs.Laws.{continued-storing, continue-leaves}
 use borrow.Author.Needs.{needs}
 use Rattle.receiving.proofs.continue_received.Statement.{statement}
 use Rattle.receiving.proofs.continue_received.Tie as tie
@@ -26,7 +27,7 @@ shown-requires c κs = search needs
 
 -- src/lib.rt:301:5
 store-control-requires : tie.Need-store-control-requires
-store-control-requires c κs = ?
+store-control-requires c κs = let p = c .before .before .before .before .before .before .before .before .before .before .before .before .pre in continued-storing _ _ _ (c .before .before .before .before .shown .result) _ _ (c .before .before .before .before .before .before .before .load .ensures) _ (c .before .before .before .before .before .before .continued .ensures) (p .0) (p .1) (c .before .before .before .before .shown .ensures .control)
 
 -- src/lib.rt:302:5
 cast-result : tie.Need-cast-result
@@ -42,7 +43,7 @@ same-length-2 c = search needs
 
 -- src/lib.rt:292:1
 returns : tie.Need-returns
-returns c = ?
+returns c = continue-leaves _ _ _ (c .before .before .before .before .before .before .before .before .shown .result) _ _ (c .before .before .before .before .before .before .before .before .before .before .before .load .ensures) _ (c .before .before .before .before .before .before .before .before .before .before .continued .ensures) _ _ _ (c .before .before .before .before .before .before .before .before .shown .ensures) (c .before .before .before .store-control .ensures)
 
 pub continue-received-spec : {M : Type 1} → statement M
 continue-received-spec =

@@ -1,3 +1,4 @@
+use Rattle.receiving.proofs.Laws.{end-leaves}
 use borrow.Author.Needs.{needs}
 use Rattle.receiving.proofs.end_received.Statement.{statement}
 use Rattle.receiving.proofs.end_received.Tie as tie
@@ -37,7 +38,7 @@ same-length-2 c = search needs
 
 -- src/lib.rt:306:1
 returns : tie.Need-returns
-returns c = ?
+returns c = end-leaves _ _ _ (c .before .before .before .before .before .before .before .shown .result) _ _ (c .before .before .before .before .before .before .before .before .before .load .ensures) _ _ _ (c .before .before .before .before .before .before .before .shown .ensures) (c .before .before .before .free-at .ensures)
 
 pub end-received-spec : {M : Type 1} → statement M
 end-received-spec =

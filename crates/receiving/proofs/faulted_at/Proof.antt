@@ -1,3 +1,8 @@
+use mathlib.Core.Path.{ap, _∙_}
+use Prim.Native.Nat.{ℕ}
+use Rattle.paper.specs.Messages.{noRun}
+use Rattle.paper.specs.Rows.{dialogueRow}
+use Rattle.receiving.proofs.Laws.{fault-leaves}
 use borrow.Author.Needs.{needs}
 use Rattle.receiving.proofs.faulted_at.Statement.{statement}
 use Rattle.receiving.proofs.faulted_at.Tie as tie
@@ -38,7 +43,7 @@ same-length-2 c = search needs
 
 -- src/lib.rt:106:1
 returns : tie.Need-returns
-returns c = ?
+returns c = fault-leaves _ _ _ _ _ _ (c .before .before .before .before .before .before .write-row .ensures .0) (c .before .before .free-at .ensures) _ (c .before .before .before .before .before .before .before .before .dialogue-row .ensures ∙ ap (λ (n : ℕ). dialogueRow 6 (c .before .before .before .before .before .before .before .before .before .before .before .before .args .dialogue) n noRun 0) (c .before .before .before .before .before .before .before .before .before .number .ensures .0))
 
 pub faulted-at-spec : {M : Type 1} → statement M
 faulted-at-spec =

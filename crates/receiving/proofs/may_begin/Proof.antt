@@ -1,3 +1,7 @@
+use mathlib.Core.Path.{sym, _∙_}
+use Rattle.paper.specs.Calls.{guaranteeOf, limitOf, held, mayBegin}
+use Rattle.paper.specs.Layout.{view}
+use Rattle.facts.specs.Ready.{guarantee-at, limit-at}
 use borrow.Author.Needs.{needs}
 use Rattle.receiving.proofs.may_begin.Statement.{statement}
 use Rattle.receiving.proofs.may_begin.Tie as tie
@@ -36,7 +40,18 @@ gives-place-requires c κs = search needs
 
 -- src/lib.rt:248:5
 returns : tie.Need-returns
-returns c = ?
+unfolding mayBegin
+returns c = let a = c .before .before .before .before .before .before .args in
+    let p = c .before .before .before .before .before .before .pre in
+    c .gives-place .ensures (guaranteeOf (view (a .t .now))) (limitOf (view (a .t .now))) (held (view (a .t .now) .places)) (a .service)
+    (record {
+      service = p .service;
+      counted = p .counted;
+      guaranteed = c .before .before .before .number .ensures .0 ∙ sym (guarantee-at (a .t .now) (a .service) (p .service));
+      limited = c .before .number2 .ensures .0 ∙ sym (limit-at (a .t .now) (a .service) (p .service));
+      kept = p .kept;
+      remain = p .remain;
+    })
 
 pub may-begin-spec : {M : Type 1} → statement M
 may-begin-spec =

@@ -1,3 +1,5 @@
+use native.Mathlib.Omega.{arith}
+use Rattle.receiving.proofs.Laws.{octet-in, octet-past}
 use borrow.Author.Needs.{needs}
 use Rattle.receiving.proofs.octet_of.Statement.{statement}
 use Rattle.receiving.proofs.octet_of.Tie as tie
@@ -14,11 +16,11 @@ shared-slice-read-result c = search needs
 
 -- src/lib.rt:73:9
 returns : tie.Need-returns
-returns c = ?
+returns c = let a = c .before .before .args in octet-in (a .s .now) (a .a) (a .n) (a .i) (omega arith)
 
 -- src/lib.rt:75:5
 returns-2 : tie.Need-returns-2
-returns-2 c = ?
+returns-2 c = let a = c .before .args in octet-past (a .s .now) (a .a) (a .n) (a .i) (omega arith)
 
 pub octet-of-spec : {M : Type 1} → statement M
 octet-of-spec = tie.close (tie.spec add-result shared-slice-read-result returns returns-2)

@@ -1,3 +1,4 @@
+use Rattle.receiving.proofs.Laws.{pad-four}
 use borrow.Author.Needs.{needs}
 use Rattle.receiving.proofs.peer_of.Statement.{statement}
 use Rattle.receiving.proofs.peer_of.Tie as tie
@@ -23,7 +24,7 @@ octet-of-requires-4 c κs = search needs
 
 -- src/lib.rt:78:1
 returns : tie.Need-returns
-returns c = ?
+returns c = pad-four _ _ _ _ _ (c .before .before .before .octet-of .ensures) (c .before .before .octet-of2 .ensures) (c .before .octet-of3 .ensures) (c .octet-of4 .ensures)
 
 pub peer-of-spec : {M : Type 1} → statement M
 peer-of-spec =

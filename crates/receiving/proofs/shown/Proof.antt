@@ -1,3 +1,4 @@
+use Rattle.receiving.proofs.Laws.{rowed}
 use borrow.Author.Needs.{needs}
 use Rattle.receiving.proofs.shown.Statement.{statement}
 use Rattle.receiving.proofs.shown.Tie as tie
@@ -33,7 +34,7 @@ same-length c = search needs
 
 -- src/lib.rt:171:1
 returns : tie.Need-returns
-returns c = ?
+returns c = rowed _ _ _ _ _ _ _ _ _ _ (c .before .before .before .before .before .before .before .before .before .components-shown .ensures) _ (c .before .before .before .before .dialogue-row .ensures) (c .before .before .write-row .ensures .0) (c .before .before .write-row .ensures .1)
 
 pub shown-spec : {M : Type 1} → statement M
 shown-spec =

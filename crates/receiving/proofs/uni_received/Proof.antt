@@ -1,3 +1,4 @@
+use Rattle.receiving.proofs.Laws.{uni-leaves}
 use borrow.Author.Needs.{needs}
 use Rattle.receiving.proofs.uni_received.Statement.{statement}
 use Rattle.receiving.proofs.uni_received.Tie as tie
@@ -24,7 +25,7 @@ same-length c = search needs
 
 -- src/lib.rt:215:1
 returns : tie.Need-returns
-returns c = ?
+returns c = λ T. uni-leaves T _ _ _ _ _ (c .before .before .before .shown .result) (c .before .before .before .before .before .begun .ensures) (c .before .before .before .shown .ensures)
 
 pub uni-received-spec : {M : Type 1} → statement M
 uni-received-spec =
