@@ -82,3 +82,7 @@ leaves-receives {space = space} l = record {
   long = ap length (sym (l .silent));
   writes = ap (sets space 0) (sym (l .silent));
 }
+
+-- the same octets of the table by another name
+pub table-as : {o : Out} {r : Received} {t u old new before after : List ℕ} → t ≡ u → Receives o r t old new before after → Receives o r u old new before after
+table-as {o = o} {r} {t} {u} {old} {new} {before} {after} e l = subst (λ (x : List ℕ). Receives o r x old new before after) e l

@@ -81,7 +81,12 @@ fn peer_of(s: &[u8], id: Run) -> [u8; 4]
 {
     let a = id.start;
     let n = id.length;
-    [octet_of(s, a, n, 0), octet_of(s, a, n, 1), octet_of(s, a, n, 2), octet_of(s, a, n, 3)]
+    [
+        octet_of(s, a, n, 0),
+        octet_of(s, a, n, 1),
+        octet_of(s, a, n, 2),
+        octet_of(s, a, n, 3),
+    ]
 }
 
 // "It is assigned when it is the four octets of this service's dialogue in Sent, Received or Active."
@@ -132,10 +137,7 @@ fn faulted(
 {
     let id = m.origin;
     if id.length == 0 {
-        return Received {
-            rows: 0,
-            length: 0,
-        };
+        return Received { rows: 0, length: 0 };
     }
     let a = id.start;
     let e = a + id.length;
@@ -157,7 +159,14 @@ fn faulted(
 
 // ---- ROWS
 // The components act on a control record and are shown from row 1 on; none without a 6C.
-fn components_shown(s: &[u8], m: Message, control: Control, room: u8, rows: &mut [u8], me: u32) -> Shown
+fn components_shown(
+    s: &[u8],
+    m: Message,
+    control: Control,
+    room: u8,
+    rows: &mut [u8],
+    me: u32,
+) -> Shown
     requires { ⌜ Read (now s) m × (room ≤ 8) × (4096 ≤ length (now rows)) ⌝ }
     ensures { λ r. ⌜ Shows me room control (now (rows .entry)) (itemsOf (now (s .entry)) m) r (now (rows .exit)) ⌝ }
 {
@@ -200,7 +209,12 @@ fn shown(
 fn begun(turn: u32, state: u8, service: u8, peerlen: u8, peer: [u8; 4]) -> Control
     ensures { λ r. ⌜ r ≡ begun turn state service peerlen peer ⌝ }
 {
-    let invocations = [Invocation { id: 0, class: 0, state: 0, shown: 0 }; 8];
+    let invocations = [Invocation {
+        id: 0,
+        class: 0,
+        state: 0,
+        shown: 0,
+    }; 8];
     let rejects = [Reject { id: 0, problem: 0 }; 8];
     Control {
         turn,
@@ -267,10 +281,7 @@ fn begin_received(
     if may_begin(t, service, n) {
         let p = places::lowest_place(t);
         let k = begin_at(t, service, p, s, m, rows);
-        return Received {
-            rows: k,
-            length: 0,
-        };
+        return Received { rows: k, length: 0 };
     }
     return faulted(t, service, s, m, 4, rows, space);
 }
@@ -358,30 +369,18 @@ fn to_dialogue(
         if m.tag == 0x65 {
             return faulted(t, service, s, m, 3, rows, space);
         }
-        return Received {
-            rows: 0,
-            length: 0,
-        };
+        return Received { rows: 0, length: 0 };
     }
     if m.tag == 0x65 {
         let n = continue_received(t, me, s, m, rows);
-        return Received {
-            rows: n,
-            length: 0,
-        };
+        return Received { rows: n, length: 0 };
     }
     if m.tag == 0x64 {
         let n = end_received(t, me, s, m, rows);
-        return Received {
-            rows: n,
-            length: 0,
-        };
+        return Received { rows: n, length: 0 };
     }
     let n = abort_received(t, me, s, m, rows);
-    return Received {
-        rows: n,
-        length: 0,
-    };
+    return Received { rows: n, length: 0 };
 }
 
 // A sound message, by its type: "destination not assigned, 1".
@@ -399,10 +398,7 @@ fn sound_received(
 {
     if m.tag == 0x61 {
         let k = uni_received(s, m, rows);
-        return Received {
-            rows: k,
-            length: 0,
-        };
+        return Received { rows: k, length: 0 };
     }
     if m.tag == 0x62 {
         return begin_received(t, service, s, m, n, rows, space);
@@ -429,10 +425,7 @@ pub fn receive(
 {
     let m = messages::message_of(s);
     if m.fault == 254 {
-        return Received {
-            rows: 0,
-            length: 0,
-        };
+        return Received { rows: 0, length: 0 };
     }
     if m.fault == 255 {
         return sound_received(t, service, s, m, n, rows, space);

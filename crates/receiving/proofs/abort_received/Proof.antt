@@ -2,37 +2,25 @@ use Rattle.receiving.proofs.Laws.{abort-leaves}
 use borrow.Author.Needs.{needs}
 use Rattle.receiving.proofs.abort_received.Statement.{statement}
 use Rattle.receiving.proofs.abort_received.Tie as tie
-use Rattle.receiving.proofs.abort_received.Reads as reads
-use Rattle.receiving.proofs.abort_received.Lts as lts
-use Rattle.places.proofs.free_at.Reads as free-at-reads
-use Rattle.receiving.proofs.abort_row.Reads as abort-row-reads
-use Rattle.rows.proofs.write_row.Reads as write-row-reads
 
--- src/lib.rt:333:13
 cast-p : tie.Need-cast-p
 cast-p c = search needs
 
--- src/lib.rt:334:9
 abort-row-requires : tie.Need-abort-row-requires
 abort-row-requires c κs = search needs
 
--- src/lib.rt:335:5
 write-row-requires : tie.Need-write-row-requires
 write-row-requires c κs = search needs
 
--- src/lib.rt:336:5
 free-at-requires : tie.Need-free-at-requires
 free-at-requires c κs = search needs
 
--- src/lib.rt:329:1
 same-length : tie.Need-same-length
 same-length c = search needs
 
--- src/lib.rt:329:1
 same-length-2 : tie.Need-same-length-2
 same-length-2 c = search needs
 
--- src/lib.rt:329:1
 returns : tie.Need-returns
 returns c = abort-leaves _ _ _ _ _ _ (c .before .before .before .before .before .before .write-row .ensures .0) (c .before .before .free-at .ensures) _ (c .before .before .before .before .before .before .before .before .abort-row .ensures)
 

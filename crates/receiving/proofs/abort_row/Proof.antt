@@ -3,23 +3,16 @@ use Rattle.laws.specs.If.{eq, ne}
 use borrow.Author.Needs.{needs}
 use Rattle.receiving.proofs.abort_row.Statement.{statement}
 use Rattle.receiving.proofs.abort_row.Tie as tie
-use Rattle.receiving.proofs.abort_row.Reads as reads
-use Rattle.receiving.proofs.abort_row.Lts as lts
-use Rattle.rows.proofs.dialogue_row.Reads as dialogue-row-reads
 
--- src/lib.rt:324:9
 dialogue-row-requires : tie.Need-dialogue-row-requires
 dialogue-row-requires c κs = search needs
 
--- src/lib.rt:324:9
 returns : tie.Need-returns
 returns c = eq _ _ _ _ (omega arith) (c .dialogue-row .ensures)
 
--- src/lib.rt:326:5
 dialogue-row-requires-2 : tie.Need-dialogue-row-requires-2
 dialogue-row-requires-2 c κs = search needs
 
--- src/lib.rt:326:5
 returns-2 : tie.Need-returns-2
 returns-2 c = ne _ _ _ _ (λ h. omega arith) (c .dialogue-row2 .ensures)
 

@@ -7,42 +7,29 @@ use Rattle.receiving.proofs.Laws.{assigned-open, assigned-other, assign
 use borrow.Author.Needs.{needs}
 use Rattle.receiving.proofs.assigned.Statement.{statement}
 use Rattle.receiving.proofs.assigned.Tie as tie
-use Rattle.receiving.proofs.assigned.Reads as reads
-use Rattle.receiving.proofs.assigned.Lts as lts
-use Rattle.places.proofs.owner.Reads as owner-reads
-use Rattle.places.proofs.state_at.Reads as state-at-reads
-use Rattle.receiving.proofs.number_at.Reads as number-at-reads
 
--- src/lib.rt:94:9
 returns : tie.Need-returns
 unfolding assigned
 returns c = ne _ _ _ _ (λ h. omega arith) refl
 
--- src/lib.rt:96:9
 number-at-requires : tie.Need-number-at-requires
 number-at-requires c κs = search needs
 
--- src/lib.rt:97:8
 owner-requires : tie.Need-owner-requires
 owner-requires c κs = search needs
 
--- src/lib.rt:98:17
 cast-p : tie.Need-cast-p
 cast-p c = search needs
 
--- src/lib.rt:99:12
 state-at-requires : tie.Need-state-at-requires
 state-at-requires c κs = let o = owned-is _ _ _ (sym (c .before .owner .ensures) ∙ c .if2 .taken) in (o .small, c .before .before .before .before .before .before .before .before .pre .0 .long)
 
--- src/lib.rt:100:13
 returns-2 : tie.Need-returns-2
 returns-2 c = assigned-open _ _ _ _ (omega arith) _ (c .before .before .before .before .number-at .ensures) (sym (c .before .before .before .owner .ensures) ∙ c .before .before .if2 .taken) (sym (c .before .state-at .ensures) ∙ c .if3 .taken)
 
--- src/lib.rt:102:9
 returns-3 : tie.Need-returns-3
 returns-3 c = assigned-other _ _ _ _ (omega arith) _ (c .before .before .before .before .number-at .ensures) (sym (c .before .before .before .owner .ensures) ∙ c .before .before .if2 .taken) (λ h. c .if3 .left (c .before .state-at .ensures ∙ h))
 
--- src/lib.rt:104:5
 returns-4 : tie.Need-returns-4
 returns-4 c = assigned-none _ _ _ _ (omega arith) _ (c .before .before .number-at .ensures) (sym (c .before .owner .ensures) ∙ c .if2 .left)
 

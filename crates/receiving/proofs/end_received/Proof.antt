@@ -2,41 +2,28 @@ use Rattle.receiving.proofs.Laws.{end-leaves}
 use borrow.Author.Needs.{needs}
 use Rattle.receiving.proofs.end_received.Statement.{statement}
 use Rattle.receiving.proofs.end_received.Tie as tie
-use Rattle.receiving.proofs.end_received.Reads as reads
-use Rattle.receiving.proofs.end_received.Lts as lts
-use Rattle.places.proofs.free_at.Reads as free-at-reads
-use Rattle.places.proofs.load.Reads as load-reads
-use Rattle.receiving.proofs.shown.Reads as shown-reads
 
--- src/lib.rt:310:13
 cast-p : tie.Need-cast-p
 cast-p c = search needs
 
--- src/lib.rt:311:9
 load-requires : tie.Need-load-requires
 load-requires c κs = search needs
 
--- src/lib.rt:312:9
 shown-requires : tie.Need-shown-requires
 shown-requires c κs = search needs
 
--- src/lib.rt:313:5
 free-at-requires : tie.Need-free-at-requires
 free-at-requires c κs = search needs
 
--- src/lib.rt:314:5
 cast-result : tie.Need-cast-result
 cast-result c = search needs
 
--- src/lib.rt:306:1
 same-length : tie.Need-same-length
 same-length c = search needs
 
--- src/lib.rt:306:1
 same-length-2 : tie.Need-same-length-2
 same-length-2 c = search needs
 
--- src/lib.rt:306:1
 returns : tie.Need-returns
 returns c = end-leaves _ _ _ (c .before .before .before .before .before .before .before .shown .result) _ _ (c .before .before .before .before .before .before .before .before .before .load .ensures) _ _ _ (c .before .before .before .before .before .before .before .shown .ensures) (c .before .before .before .free-at .ensures)
 

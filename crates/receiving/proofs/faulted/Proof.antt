@@ -1,84 +1,76 @@
+use native.Mathlib.Omega.{arith}
+use mathlib.Core.Path.{refl, sym, _∙_}
+use Rattle.laws.specs.If.{eq}
+use Rattle.paper.specs.Calls.{faulted}
+use Rattle.paper.specs.Layout.{view}
+use Rattle.receiving.specs.Receives.{receives-as}
+use Rattle.receiving.proofs.Laws.{assigned-is, owned-standing, drop-receives, run-is, abort-fits, fault-assigned, fault-none}
 use borrow.Author.Needs.{needs}
 use Rattle.receiving.proofs.faulted.Statement.{statement}
 use Rattle.receiving.proofs.faulted.Tie as tie
-use Rattle.receiving.proofs.faulted.Reads as reads
-use Rattle.receiving.proofs.faulted.Lts as lts
-use Rattle.receiving.proofs.assigned.Reads as assigned-reads
-use Rattle.receiving.proofs.faulted_at.Reads as faulted-at-reads
-use Rattle.receiving.proofs.number_at.Reads as number-at-reads
-use Rattle.writing.proofs.write_cause_abort.Reads as write-cause-abort-reads
 
--- src/lib.rt:132:9
 returns : tie.Need-returns
-returns c = ?
+unfolding faulted
+returns c = receives-as (eq _ _ _ _ (omega arith) refl) (drop-receives _ _ _ (c .before .before .before .before .before .before .before .pre .0))
 
--- src/lib.rt:138:13
 add-e : tie.Need-add-e
 add-e c = search needs
 
--- src/lib.rt:139:50
 sub-write-cause-abort : tie.Need-sub-write-cause-abort
 sub-write-cause-abort c = search needs
 
--- src/lib.rt:139:50
 part-write-cause-abort-start : tie.Need-part-write-cause-abort-start
 part-write-cause-abort-start c = search needs
 
--- src/lib.rt:139:50
 part-write-cause-abort-end : tie.Need-part-write-cause-abort-end
 part-write-cause-abort-end c = search needs
 
--- src/lib.rt:139:9
 write-cause-abort-requires : tie.Need-write-cause-abort-requires
 write-cause-abort-requires c κs = search needs
 
--- src/lib.rt:140:8
 assigned-requires : tie.Need-assigned-requires
 assigned-requires c κs = search needs
 
--- src/lib.rt:142:13
 number-at-requires : tie.Need-number-at-requires
-number-at-requires c κs = ?
+number-at-requires c κs = let a = c .before .before .before .before .before .before .before .before .before .before .before .before .before .before .before .before .before .args in
+    let k = assigned-is (view (a .t .now)) (a .service) (a .s .now) (a .m) (sym (c .before .before .assigned .ensures) ∙ c .before .if2 .taken) in
+    omega (arith, k .0, c .before .before .before .before .before .before .before .before .before .before .before .before .before .before .before .before .before .pre .1 .lies .destination .lies)
 
--- src/lib.rt:143:9
 faulted-at-requires : tie.Need-faulted-at-requires
-faulted-at-requires c κs = ?
+faulted-at-requires c κs = let a = c .before .before .before .before .before .before .before .before .before .before .before .before .before .before .before .before .before .before .before .before .args in
+    let k = assigned-is (view (a .t .now)) (a .service) (a .s .now) (a .m) (sym (c .before .before .before .before .before .assigned .ensures) ∙ c .before .before .before .before .if2 .taken) in
+    (owned-standing (a .t .now) (c .before .before .before .before .before .before .before .before .before .before .before .before .before .before .before .before .before .before .before .before .pre .0) (a .service) _ _ (c .before .before .number-at .ensures) (k .1), omega arith)
 
--- src/lib.rt:146:21
 cast-t29 : tie.Need-cast-t29
-cast-t29 c = ?
+cast-t29 c = let a = c .before .before .before .before .before .before .before .before .before .before .before .before .before .before .before .before .before .before .before .before .before .before .before .before .before .args in
+    omega (arith, c .before .before .before .before .before .before .before .before .before .before .before .before .before .before .write-cause-abort .ensures .past, abort-fits (a .s .now) (a .m .origin .start) (a .m .origin .length) (a .cause) (c .before .before .before .before .before .before .before .before .before .before .before .before .before .before .before .before .before .before .before .before .before .before .before .before .before .pre .1 .lies .origin .short))
 
--- src/lib.rt:144:9
 same-length : tie.Need-same-length
 same-length c = search needs
 
--- src/lib.rt:144:9
 same-length-2 : tie.Need-same-length-2
 same-length-2 c = search needs
 
--- src/lib.rt:144:9
 same-length-3 : tie.Need-same-length-3
 same-length-3 c = search needs
 
--- src/lib.rt:144:9
 returns-2 : tie.Need-returns-2
-returns-2 c = ?
+returns-2 c = let a = c .before .before .before .before .before .before .before .before .before .before .before .before .before .before .before .before .before .before .before .before .before .before .before .before .before .args in
+    fault-assigned _ _ _ _ (run-is (a .s .now) (a .m .origin .start) (a .m .origin .length)) _ (c .before .before .before .before .before .before .before .before .before .before .before .before .before .before .before .before .before .before .before .before .before .before .before .before .before .pre .0) _ _ _ _ _ (λ h. omega arith) (c .before .before .before .before .before .before .before .before .before .before .before .before .before .before .write-cause-abort .ensures) (sym (c .before .before .before .before .before .before .before .before .before .before .assigned .ensures) ∙ c .before .before .before .before .before .before .before .before .before .if2 .taken) _ (c .before .before .before .before .before .before .before .number-at .ensures) _ _ (c .before .before .before .before .faulted-at .ensures)
 
--- src/lib.rt:151:17
 cast-t30 : tie.Need-cast-t30
-cast-t30 c = ?
+cast-t30 c = let a = c .before .before .before .before .before .before .before .before .before .before .before .before .before .before .before .before .args in
+    omega (arith, c .before .before .before .before .before .write-cause-abort .ensures .past, abort-fits (a .s .now) (a .m .origin .start) (a .m .origin .length) (a .cause) (c .before .before .before .before .before .before .before .before .before .before .before .before .before .before .before .before .pre .1 .lies .origin .short))
 
--- src/lib.rt:149:5
 same-length-4 : tie.Need-same-length-4
 same-length-4 c = search needs
 
--- src/lib.rt:149:5
 same-length-5 : tie.Need-same-length-5
 same-length-5 c = search needs
 
--- src/lib.rt:149:5
 returns-3 : tie.Need-returns-3
-returns-3 c = ?
+returns-3 c = let a = c .before .before .before .before .before .before .before .before .before .before .before .before .before .before .before .before .args in
+    fault-none _ _ _ _ (run-is (a .s .now) (a .m .origin .start) (a .m .origin .length)) _ (c .before .before .before .before .before .before .before .before .before .before .before .before .before .before .before .before .pre .0) _ _ _ _ _ (λ h. omega arith) (c .before .before .before .before .before .write-cause-abort .ensures) (sym (c .before .assigned .ensures) ∙ c .if2 .left)
 
 pub faulted-spec : {M : Type 1} → statement M
 faulted-spec =

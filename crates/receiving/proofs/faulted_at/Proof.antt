@@ -6,42 +6,28 @@ use Rattle.receiving.proofs.Laws.{fault-leaves}
 use borrow.Author.Needs.{needs}
 use Rattle.receiving.proofs.faulted_at.Statement.{statement}
 use Rattle.receiving.proofs.faulted_at.Tie as tie
-use Rattle.receiving.proofs.faulted_at.Reads as reads
-use Rattle.receiving.proofs.faulted_at.Lts as lts
-use Rattle.places.proofs.free_at.Reads as free-at-reads
-use Rattle.receiving.proofs.number.Reads as number-reads
-use Rattle.rows.proofs.dialogue_row.Reads as dialogue-row-reads
-use Rattle.rows.proofs.write_row.Reads as write-row-reads
 
--- src/lib.rt:110:13
 cast-p : tie.Need-cast-p
 cast-p c = search needs
 
--- src/lib.rt:111:9
 number-requires : tie.Need-number-requires
 number-requires c κs = search needs
 
--- src/lib.rt:112:9
 dialogue-row-requires : tie.Need-dialogue-row-requires
 dialogue-row-requires c κs = search needs
 
--- src/lib.rt:113:5
 write-row-requires : tie.Need-write-row-requires
 write-row-requires c κs = search needs
 
--- src/lib.rt:114:5
 free-at-requires : tie.Need-free-at-requires
 free-at-requires c κs = search needs
 
--- src/lib.rt:106:1
 same-length : tie.Need-same-length
 same-length c = search needs
 
--- src/lib.rt:106:1
 same-length-2 : tie.Need-same-length-2
 same-length-2 c = search needs
 
--- src/lib.rt:106:1
 returns : tie.Need-returns
 returns c = fault-leaves _ _ _ _ _ _ (c .before .before .before .before .before .before .write-row .ensures .0) (c .before .before .free-at .ensures) _ (c .before .before .before .before .before .before .before .before .dialogue-row .ensures ∙ ap (λ (n : ℕ). dialogueRow 6 (c .before .before .before .before .before .before .before .before .before .before .before .before .args .dialogue) n noRun 0) (c .before .before .before .before .before .before .before .before .before .number .ensures .0))
 

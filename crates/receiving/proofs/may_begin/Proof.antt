@@ -5,40 +5,28 @@ use Rattle.facts.specs.Ready.{guarantee-at, limit-at}
 use borrow.Author.Needs.{needs}
 use Rattle.receiving.proofs.may_begin.Statement.{statement}
 use Rattle.receiving.proofs.may_begin.Tie as tie
-use Rattle.receiving.proofs.may_begin.Reads as reads
-use Rattle.receiving.proofs.may_begin.Lts as lts
-use Rattle.receiving.proofs.number.Reads as number-reads
-use Rattle.shares.proofs.gives_place.Reads as gives-place-reads
 
--- src/lib.rt:246:30
 add-number : tie.Need-add-number
 add-number c = search needs
 
--- src/lib.rt:246:28
 shared-slice-read-number : tie.Need-shared-slice-read-number
 shared-slice-read-number c = search needs
 
--- src/lib.rt:246:9
 number-requires : tie.Need-number-requires
 number-requires c κs = search needs
 
--- src/lib.rt:247:26
 add-number-2 : tie.Need-add-number-2
 add-number-2 c = search needs
 
--- src/lib.rt:247:24
 shared-slice-read-number-2 : tie.Need-shared-slice-read-number-2
 shared-slice-read-number-2 c = search needs
 
--- src/lib.rt:247:9
 number-requires-2 : tie.Need-number-requires-2
 number-requires-2 c κs = search needs
 
--- src/lib.rt:248:5
 gives-place-requires : tie.Need-gives-place-requires
 gives-place-requires c κs = search needs
 
--- src/lib.rt:248:5
 returns : tie.Need-returns
 unfolding mayBegin
 returns c = let a = c .before .before .before .before .before .before .args in

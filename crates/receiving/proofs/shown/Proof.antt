@@ -2,37 +2,25 @@ use Rattle.receiving.proofs.Laws.{rowed}
 use borrow.Author.Needs.{needs}
 use Rattle.receiving.proofs.shown.Statement.{statement}
 use Rattle.receiving.proofs.shown.Tie as tie
-use Rattle.receiving.proofs.shown.Reads as reads
-use Rattle.receiving.proofs.shown.Lts as lts
-use Rattle.receiving.proofs.components_shown.Reads as components-shown-reads
-use Rattle.rows.proofs.dialogue_row.Reads as dialogue-row-reads
-use Rattle.rows.proofs.write_row.Reads as write-row-reads
 
--- src/lib.rt:183:9
 components-shown-requires : tie.Need-components-shown-requires
 components-shown-requires c κs = search needs
 
--- src/lib.rt:187:60
 cast-dialogue-row : tie.Need-cast-dialogue-row
 cast-dialogue-row c = search needs
 
--- src/lib.rt:187:9
 dialogue-row-requires : tie.Need-dialogue-row-requires
 dialogue-row-requires c κs = search needs
 
--- src/lib.rt:188:5
 write-row-requires : tie.Need-write-row-requires
 write-row-requires c κs = search needs
 
--- src/lib.rt:191:16
 add-t19 : tie.Need-add-t19
 add-t19 c = search needs
 
--- src/lib.rt:171:1
 same-length : tie.Need-same-length
 same-length c = search needs
 
--- src/lib.rt:171:1
 returns : tie.Need-returns
 returns c = rowed _ _ _ _ _ _ _ _ _ _ (c .before .before .before .before .before .before .before .before .before .components-shown .ensures) _ (c .before .before .before .before .dialogue-row .ensures) (c .before .before .write-row .ensures .0) (c .before .before .write-row .ensures .1)
 
