@@ -1,5 +1,6 @@
 pub mod Invocations
 pub mod Controls
+<<<<<<< HEAD
 pub mod Leaves
 pub mod Acts
 pub mod Carried
@@ -11,3 +12,6 @@ pub mod Steps
 pub mod Fresh
 pub mod Refusals
 pub mod Tables
+=======
+pub mod Acts
+>>>>>>> receiving

@@ -6,7 +6,7 @@ use native.Mathlib.Nat.{add-zero, add-suc, suc-add}
 use native.Mathlib.Numerals.{add-one}
 use native.Mathlib.Omega.{arith}
 use lib.ListN.{length, set, getD, take, length-append, length-set}
-use lib.Seq.{sets, length-sets, take-suc, take-nil, getD-set-same, getD-set-other}
+use lib.Seq.{sets, length-sets, take-suc, take-nil, getD-set-same, getD-set-other, set-comm}
 
 -- vs was written at `at`, and r is past it: nothing before and nothing after changed
 pub record Wrote (old : List ℕ) (at : ℕ) (vs : List ℕ) (r : ℕ) (new : List ℕ) : Type 0 where
@@ -20,6 +20,20 @@ join l at [] ys = ap (λ (k : ℕ). sets l k ys) (add-zero at)
 join l at (x ∷ xs) ys =
     ap (λ (k : ℕ). sets (sets (set l at x) (suc at) xs) k ys) (add-suc at (length xs) ∙ sym (suc-add at (length xs)))
     ∙ join (set l at x) (suc at) xs ys
+
+-- a run, and one written after it that ends where it begins, are one run too
+set-sets : (l : List ℕ) (i v at : ℕ) (ys : List ℕ) → i < at → set (sets l at ys) i v ≡ sets (set l i v) at ys
+set-sets l i v at [] h = refl
+set-sets l i v at (y ∷ ys) h =
+    set-sets (set l at y) i v (suc at) ys (omega arith) ∙ ap (λ (m : List ℕ). sets m (suc at) ys) (set-comm l at i y v (λ e. omega arith))
+
+pub join-before : (l : List ℕ) (at : ℕ) (xs ys : List ℕ) → sets (sets l (at + length xs) ys) at xs ≡ sets l at (xs ++ ys)
+join-before l at xs ys = apart l at xs (at + length xs) ys (omega arith) ∙ join l at xs ys
+  where
+    apart : (l : List ℕ) (at : ℕ) (xs : List ℕ) (to : ℕ) (ys : List ℕ) → at + length xs ≤ to → sets (sets l to ys) at xs ≡ sets (sets l at xs) to ys
+    apart l at [] to ys h = refl
+    apart l at (x ∷ xs) to ys h =
+        ap (λ (m : List ℕ). sets m (suc at) xs) (set-sets l at x to ys (omega arith)) ∙ apart (set l at x) (suc at) xs to ys (omega arith)
 
 pub wrote-none : (l : List ℕ) (at : ℕ) → Wrote l at [] at l
 wrote-none l at = record { past = sym (add-zero at); holds = refl; long = refl }

@@ -49,6 +49,10 @@ module _ (t : List ℕ) (p : ℕ) (h : p < 128) where
       let q : r ≡ placeBy (slot t p) .control .turn = omega (arith, a, octet-at 1 (omega arith), octet-at 2 (omega arith)) in
       q ∙ ap (λ (x : Place). x .control .turn) (sym (view-at t p h))
 
+  pub state-is : getD t (48 + p * 284 + 3) 0 ≡ placeAt (view t) p .control .state
+  unfolding placeBy
+  state-is = octet-at 3 (omega arith) ∙ ap (λ (x : Place). x .control .state) (sym (view-at t p h))
+
   pub waits-is : Ready t → getD t (48 + p * 284 + 10) 0 ≡ length (placeAt (view t) p .waiting)
   waits-is r = octet-at 10 (omega arith) ∙ ap (λ (s : List ℕ). getD s 10 0) (ready-slot t r p h) ∙ length-at (placeAt (view t) p) (r .fine .each p h .control)
 

@@ -155,6 +155,15 @@ pub fn turn_at(t: &[u8], p: usize) -> u32
     turn_of(t[a], t[a + 1], t[a + 2])
 }
 
+// The state of place p's dialogue.
+pub fn state_at(t: &[u8], p: usize) -> u8
+    requires { ⌜ (p < 128) × (length (now t) ≡ 36400) ⌝ }
+    ensures { λ r. ⌜ r ≡ placeAt (view (now (t .entry))) p .control .state ⌝ }
+{
+    let a = 48 + p * 284;
+    t[a + 3]
+}
+
 // "The local ID is four octets: the place (0 to 127), then its turn in three, high first."
 pub fn id_at(t: &[u8], p: usize) -> u32
     requires { ⌜ (p < 128) × (length (now t) ≡ 36400) ⌝ }

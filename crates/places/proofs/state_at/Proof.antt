@@ -1,0 +1,29 @@
+use Rattle.places.proofs.Laws.{state-is}
+use borrow.Author.Needs.{needs}
+use Rattle.places.proofs.state_at.Statement.{statement}
+use Rattle.places.proofs.state_at.Tie as tie
+use Rattle.places.proofs.state_at.Reads as reads
+use Rattle.places.proofs.state_at.Lts as lts
+
+-- src/lib.rt:163:18
+mul-a : tie.Need-mul-a
+mul-a c = search needs
+
+-- src/lib.rt:163:13
+add-a : tie.Need-add-a
+add-a c = search needs
+
+-- src/lib.rt:164:7
+add-result : tie.Need-add-result
+add-result c = search needs
+
+-- src/lib.rt:164:5
+shared-slice-read-result : tie.Need-shared-slice-read-result
+shared-slice-read-result c = search needs
+
+-- src/lib.rt:159:1
+returns : tie.Need-returns
+returns c = let s = c .before in state-is (s .args .t .now) (s .args .p) (s .pre .0)
+
+pub state-at-spec : {M : Type 1} → statement M
+state-at-spec = tie.close (tie.spec mul-a add-a add-result shared-slice-read-result returns)
