@@ -118,7 +118,7 @@ fn some_end(e: usize, l: Length) -> usize
 }
 
 // "operation or error 02 with 1 to 4 octets or 06 with at least 1, not examined": where the one at p ends, else 0.
-fn code_end(s: &[u8], e: usize, p: usize) -> usize
+pub fn code_end(s: &[u8], e: usize, p: usize) -> usize
     requires { ⌜ e ≤ length (now s) ⌝ }
     ensures { λ r. ⌜ r ≡ codeEnd (now (s .entry)) e p ⌝ }
 {
