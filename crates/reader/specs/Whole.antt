@@ -7,7 +7,7 @@ use native.Mathlib.Omega.{arith}
 use lib.ListN.{length, getD}
 use lib.Dec.{ltb}
 use borrow.Author.Tests.{ltb-true, ltb-false}
-use Rattle.laws.specs.If.{ifLt, ifEq, lt, ge, eq, ne, either-lt, by-lt, by-eq}
+use Rattle.laws.specs.If.{ifLt, lt, ge, eq, ne, either-lt, by-lt, by-eq}
 use Rattle.paper.specs.declared.Component.{Component}
 use Rattle.paper.specs.declared.Message.{Message}
 use Rattle.paper.specs.Sizes.{longestMessage}
@@ -19,6 +19,7 @@ use Rattle.components.specs.Bounds.{ComponentIn, component-in}
 use Rattle.messages.specs.Bounds.{MessageIn, message-in}
 use Rattle.reader.specs.declared.Piece.{Piece}
 use Rattle.reader.specs.declared.Piece.the-variants.{Part, End}
+use Rattle.reader.specs.Steps.{of-message, of-component, from-start}
 use Rattle.reader.specs.Read.{cursorOf, firstCursor, pieceOf, pieceIn, pieceBy, pieceAt, onward, readFrom}
 
 -- the two numbers of a cursor
@@ -50,22 +51,21 @@ module _ (s : List ℕ) (octets : (i : ℕ) → getD s i 0 < 256) (short : lengt
   piece-past at h g = cursor-at s lim at some h ∙ sym (ge _ _ _ _ short (ge _ _ _ _ ends (ge _ _ _ _ g refl)))
 
   piece-here : (at : ℕ) (p : Piece) → at < lim → p ≡ pieceOf lim at (componentAt s lim at) → pieceAt s (lim * 1024 + at) ≡ p
-  unfolding pieceIn
-  piece-here at p h e = cursor-at s lim at some (omega arith) ∙ sym (ge _ _ _ _ short (ge _ _ _ _ ends (lt _ _ _ _ h e)))
+  piece-here at p h e = cursor-at s lim at some (omega arith) ∙ sym (of-component s lim at _ p short ends h refl e)
 
   -- after a sound component, the same as what is read from where it stops
-  sound-rest : (n m at : ℕ) (c : Component) → c .fault ≡ 3 → ComponentIn (at + 5) lim c → lim - at < suc n → lim - at < suc m
+  sound-rest : (n m : ℕ) (c : Component) → c .fault ≡ 3 → c .stop ≤ lim
       → (c .stop < lim → readFrom s m (lim * 1024 + c .stop) ≡ soundItems (items s lim n (c .stop)))
       → readFrom s m (lim * 1024 + c .stop) ≡ soundItems (goOn (ltb (nextStart lim c) lim) (λ _. items s lim n (nextStart lim c)))
   unfolding soundItems nextStart
-  sound-rest n m at c f w i j on = go (ltb (c .stop) lim) refl ∙ ap (λ (x : ℕ). soundItems (goOn (ltb x lim) (λ _. items s lim n x))) next
+  sound-rest n m c f w on = go (ltb (c .stop) lim) refl ∙ ap (λ (x : ℕ). soundItems (goOn (ltb x lim) (λ _. items s lim n x))) next
     where
       next : c .stop ≡ nextStart lim c
       next = eq _ _ _ _ f refl
 
       go : (b : Bool) → ltb (c .stop) lim ≡ b → readFrom s m (lim * 1024 + c .stop) ≡ soundItems (goOn b (λ _. items s lim n (c .stop)))
       go true e = on (ltb-true _ _ e)
-      go false e = let z = ltb-false _ _ e in read-end s m _ (piece-past (c .stop) (omega (arith, w .ends)) z)
+      go false e = let z = ltb-false _ _ e in read-end s m _ (piece-past (c .stop) (omega arith) z)
 
   -- the components from a position on
   sound-from : (n m at : ℕ) → at ≤ lim → lim - at < n → lim - at < m → readFrom s m (lim * 1024 + at) ≡ soundItems (items s lim n at)
@@ -79,7 +79,7 @@ module _ (s : List ℕ) (octets : (i : ℕ) → getD s i 0 < 256) (short : lengt
       (λ f q.
       let z = w .long f in
       read-step s m _ (Part at c (lim * 1024 + c .stop)) (piece-here at _ (omega (arith, w .ends)) (eq _ _ _ _ f refl))
-      ∙ ap (λ (l : List Item). item s lim at ∷ l) (sound-rest n m at c f w i j (λ l. sound-from n m (c .stop) (w .ends) (omega arith) (omega arith)))
+      ∙ ap (λ (l : List Item). item s lim at ∷ l) (sound-rest n m c f (w .ends) (λ l. sound-from n m (c .stop) (w .ends) (omega arith) (omega arith)))
       ∙ sym q)
       (λ f q.
       by-lt {A = ℕ} at lim 0 1 refl
@@ -87,14 +87,10 @@ module _ (s : List ℕ) (octets : (i : ℕ) → getD s i 0 < 256) (short : lengt
       (λ l _. read-end s (suc m) _ (piece-past at (omega arith) l))
       ∙ sym q)
 
--- the start stands for the first component's cursor
-from-start : (s : List ℕ) (k : ℕ) → k ≡ firstCursor s → pieceAt s 0 ≡ pieceBy s k
-unfolding pieceAt
-from-start s k e = sym (eq _ _ _ _ refl (ap (pieceBy s) e))
-
+-- none from a start that has none
 read-none : (s : List ℕ) (n : ℕ) → 0 ≡ firstCursor s → readFrom s n 0 ≡ []
 unfolding pieceIn
-read-none s n e = read-end s n 0 (from-start s 0 e ∙ sym (either-lt _ _ _ _ refl (either-lt _ _ _ _ refl (ge _ _ _ _ (omega arith) refl))))
+read-none s n e = read-end s n 0 (sym (from-start s 0 0 End e refl (either-lt _ _ _ _ refl (either-lt _ _ _ _ refl (ge _ _ _ _ (omega arith) refl)))))
 
 read-same : (s : List ℕ) (n j k : ℕ) → pieceAt s j ≡ pieceAt s k → readFrom s n j ≡ readFrom s n k
 unfolding readFrom
@@ -102,11 +98,6 @@ read-same s zero j k e = refl
 read-same s (suc n) j k e = ap (λ (p : Piece). onward p (λ k. readFrom s n k)) e
 
 module _ (s : List ℕ) (octets : (i : ℕ) → getD s i 0 < 256) (some : length s ≡ 0 → ⊥) (short : length s ≤ 512) (n : ℕ) (enough : length s < n) where
-  -- of a message that is not refused by 4
-  first-by : (r : ℕ) → r ≡ cursorOf (messageOf s) → r ≡ firstCursor s
-  unfolding firstCursor
-  first-by r q = ne _ _ _ _ some (ge _ _ _ _ short q)
-
   -- of a sound one
   reads-sound : messageOf s .fault ≡ isSound → readFrom s n 0 ≡ soundItems (itemsOf s (messageOf s))
   unfolding cursorOf itemsOf components soundItems
@@ -114,12 +105,15 @@ module _ (s : List ℕ) (octets : (i : ℕ) → getD s i 0 < 256) (some : length
       let m : Message = messageOf s in
       let w : MessageIn (length s) m = message-in s m refl in
       by-eq (m .from) 0 [] (items s (m .to) (m .to - m .from + 1) (m .from)) refl
-      (λ z q. read-none s n (first-by 0 (eq _ _ _ _ f (eq _ _ _ _ z refl))) ∙ sym (ap soundItems q))
+      (λ z q. read-none s n (of-message s m 0 some short refl (eq _ _ _ _ f (eq _ _ _ _ z refl))) ∙ sym (ap soundItems q))
       (λ z q.
       let k : ℕ = m .to * 1024 + m .from in
       let v : m .from ≤ m .to = w .order in
       let u : m .to ≤ length s = w .ends in
-      read-same s n 0 k (from-start s k (first-by k (eq _ _ _ _ f (ne _ _ _ _ z refl))) ∙ cursor-in s (m .to) (m .from) (omega arith) ∙ sym (cursor-at s (m .to) (m .from) (omega arith) (omega arith)))
+      read-same s n 0 k
+      (sym (from-start s 0 k _ (of-message s m k some short refl (eq _ _ _ _ f (ne _ _ _ _ z refl))) refl refl)
+      ∙ cursor-in s (m .to) (m .from) (omega arith)
+      ∙ sym (cursor-at s (m .to) (m .from) (omega arith) (omega arith)))
       ∙ sound-from s octets short (m .to) (omega arith) u (m .to - m .from + 1) n (m .from) v (omega arith) (omega arith)
       ∙ sym (ap soundItems q))
 

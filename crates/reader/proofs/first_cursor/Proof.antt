@@ -1,20 +1,11 @@
-use mathlib.Core.Path.{_≡_, refl, _∙_, ap}
-use mathlib.Core.List.{List}
-use Prim.Native.Nat.{ℕ, _<_, _≤_}
+use mathlib.Core.Path.{refl}
 use native.Mathlib.Omega.{arith}
-use lib.ListN.{length}
-use Rattle.laws.specs.If.{lt, ge, eq, ne}
-use Rattle.paper.specs.declared.Message.{Message}
-use Rattle.paper.specs.Messages.{messageOf}
+use Rattle.laws.specs.If.{lt, eq, ne}
 use Rattle.reader.specs.Read.{cursorOf, firstCursor}
+use Rattle.reader.specs.Steps.{of-message}
 use borrow.Author.Needs.{needs}
 use Rattle.reader.proofs.first_cursor.Statement.{statement}
 use Rattle.reader.proofs.first_cursor.Tie as tie
-
--- a message that is not refused by 4, as it is read
-of-message : (s : List ℕ) (m : Message) (r : ℕ) → 0 < length s → length s ≤ 512 → m ≡ messageOf s → r ≡ cursorOf m → r ≡ firstCursor s
-unfolding firstCursor
-of-message s m r h g e q = ne _ _ _ _ (λ z. omega arith) (ge _ _ _ _ g (q ∙ ap cursorOf e))
 
 returns : tie.Need-returns
 unfolding firstCursor
@@ -29,11 +20,11 @@ message-of-requires c κs = search needs
 
 returns-3 : tie.Need-returns-3
 unfolding cursorOf
-returns-3 c = of-message _ _ _ (omega arith) (omega arith) (c .before .before .message-of .ensures .0) (ne _ _ _ _ (λ h. omega arith) refl)
+returns-3 c = of-message _ _ _ (λ h. omega arith) (omega arith) (c .before .before .message-of .ensures .0) (ne _ _ _ _ (λ h. omega arith) refl)
 
 returns-4 : tie.Need-returns-4
 unfolding cursorOf
-returns-4 c = of-message _ _ _ (omega arith) (omega arith) (c .before .before .before .before .message-of .ensures .0) (eq _ _ _ _ (omega arith) (eq _ _ _ _ (omega arith) refl))
+returns-4 c = of-message _ _ _ (λ h. omega arith) (omega arith) (c .before .before .before .before .message-of .ensures .0) (eq _ _ _ _ (omega arith) (eq _ _ _ _ (omega arith) refl))
 
 mul-result : tie.Need-mul-result
 mul-result c = search needs
@@ -43,7 +34,7 @@ add-result c = search needs
 
 returns-5 : tie.Need-returns-5
 unfolding cursorOf
-returns-5 c = of-message _ _ _ (omega arith) (omega arith) (c .before .before .before .before .before .before .message-of .ensures .0) (eq _ _ _ _ (omega arith) (ne _ _ _ _ (λ h. omega arith) refl))
+returns-5 c = of-message _ _ _ (λ h. omega arith) (omega arith) (c .before .before .before .before .before .before .message-of .ensures .0) (eq _ _ _ _ (omega arith) (ne _ _ _ _ (λ h. omega arith) refl))
 
 pub first-cursor-spec : {M : Type 1} → statement M
 first-cursor-spec =

@@ -1,18 +1,10 @@
-use mathlib.Core.Path.{_≡_, _∙_, ap}
-use mathlib.Core.List.{List}
-use Prim.Native.Nat.{ℕ}
 use native.Mathlib.Omega.{arith}
-use Rattle.laws.specs.If.{eq, ne}
-use Rattle.reader.specs.declared.Piece.{Piece}
-use Rattle.reader.specs.Read.{firstCursor, pieceBy, pieceAt}
+use Rattle.laws.specs.If.{ne}
+use Rattle.reader.specs.Read.{pieceAt}
+use Rattle.reader.specs.Steps.{from-start}
 use borrow.Author.Needs.{needs}
 use Rattle.reader.proofs.piece_at.Statement.{statement}
 use Rattle.reader.proofs.piece_at.Tie as tie
-
--- at the start of the message
-from-start : (s : List ℕ) (at k : ℕ) (r : Piece) → k ≡ firstCursor s → at ≡ 0 → r ≡ pieceBy s k → r ≡ pieceAt s at
-unfolding pieceAt
-from-start s at k r e z q = eq _ _ _ _ z (q ∙ ap (pieceBy s) e)
 
 first-cursor-requires : tie.Need-first-cursor-requires
 first-cursor-requires c κs = search needs

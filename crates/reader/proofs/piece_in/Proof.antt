@@ -1,22 +1,11 @@
-use mathlib.Core.Path.{_≡_, refl, _∙_, ap}
-use mathlib.Core.List.{List}
-use Prim.Native.Nat.{ℕ, _<_, _≤_}
+use mathlib.Core.Path.{refl}
 use native.Mathlib.Omega.{arith}
-use lib.ListN.{length}
 use Rattle.laws.specs.If.{lt, ge, eq, ne}
-use Rattle.paper.specs.declared.Component.{Component}
-use Rattle.paper.specs.Components.{componentAt}
-use Rattle.reader.specs.declared.Piece.{Piece}
 use Rattle.reader.specs.Read.{pieceOf, pieceIn}
+use Rattle.reader.specs.Steps.{of-component}
 use borrow.Author.Needs.{needs}
 use Rattle.reader.proofs.piece_in.Statement.{statement}
 use Rattle.reader.proofs.piece_in.Tie as tie
-
--- the component as it is read
-of-component : (s : List ℕ) (lim at : ℕ) (c : Component) (r : Piece) → length s ≤ 512 → lim ≤ length s → at < lim → c ≡ componentAt s lim at → r ≡ pieceOf lim at c
-    → r ≡ pieceIn s lim at
-unfolding pieceIn
-of-component s lim at c r h g i e q = ge _ _ _ _ h (ge _ _ _ _ g (lt _ _ _ _ i (q ∙ ap (pieceOf lim at) e)))
 
 returns : tie.Need-returns
 unfolding pieceIn
