@@ -1,8 +1,8 @@
 pub mod Invocations
 pub mod Controls
-<<<<<<< HEAD
 pub mod Leaves
 pub mod Acts
+pub mod Stored
 pub mod Carried
 pub mod Waiting
 pub mod Requests
@@ -12,6 +12,3 @@ pub mod Steps
 pub mod Fresh
 pub mod Refusals
 pub mod Tables
-=======
-pub mod Acts
->>>>>>> receiving

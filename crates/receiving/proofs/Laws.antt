@@ -32,7 +32,7 @@ use Rattle.facts.specs.Ready.{Ready}
 use Rattle.facts.specs.Owners.{Owned, owned-is}
 use Rattle.facts.specs.Counts.{lowest-is-free}
 use Rattle.facts.specs.Storables.{storable-peer, storable-begun}
-use Rattle.kept.specs.Acts.{Small, AllSmall, Still, all-acted-still}
+use Rattle.kept.specs.Stored.{Small, AllSmall, Still, all-acted-still}
 use Rattle.places.specs.Storing.{Storing, withWaiting}
 use Rattle.components.specs.Bounds.{component-in}
 use Rattle.writing.specs.Lengths.{element-length, length-small}
