@@ -43,7 +43,7 @@ faulted-at-requires c κs = let a = c .before .before .before .before .before .b
 
 cast-t29 : tie.Need-cast-t29
 cast-t29 c = let a = c .before .before .before .before .before .before .before .before .before .before .before .before .before .before .before .before .before .before .before .before .before .before .before .before .before .args in
-    omega (arith, c .before .before .before .before .before .before .before .before .before .before .before .before .before .before .write-cause-abort .ensures .past, abort-fits (a .s .now) (a .m .origin .start) (a .m .origin .length) (a .cause) (c .before .before .before .before .before .before .before .before .before .before .before .before .before .before .before .before .before .before .before .before .before .before .before .before .before .pre .1 .lies .origin .short))
+    omega (arith, c .before .before .before .before .before .before .before .before .before .before .before .before .before .before .write-cause-abort .ensures .0 .past, abort-fits (a .s .now) (a .m .origin .start) (a .m .origin .length) (a .cause) (c .before .before .before .before .before .before .before .before .before .before .before .before .before .before .before .before .before .before .before .before .before .before .before .before .before .pre .1 .lies .origin .short))
 
 same-length : tie.Need-same-length
 same-length c = search needs
@@ -56,11 +56,11 @@ same-length-3 c = search needs
 
 returns-2 : tie.Need-returns-2
 returns-2 c = let a = c .before .before .before .before .before .before .before .before .before .before .before .before .before .before .before .before .before .before .before .before .before .before .before .before .before .args in
-    fault-assigned _ _ _ _ (run-is (a .s .now) (a .m .origin .start) (a .m .origin .length)) _ (c .before .before .before .before .before .before .before .before .before .before .before .before .before .before .before .before .before .before .before .before .before .before .before .before .before .pre .0) _ _ _ _ _ (λ h. omega arith) (c .before .before .before .before .before .before .before .before .before .before .before .before .before .before .write-cause-abort .ensures) (sym (c .before .before .before .before .before .before .before .before .before .before .assigned .ensures) ∙ c .before .before .before .before .before .before .before .before .before .if2 .taken) _ (c .before .before .before .before .before .before .before .number-at .ensures) _ _ (c .before .before .before .before .faulted-at .ensures)
+    fault-assigned _ _ _ _ (run-is (a .s .now) (a .m .origin .start) (a .m .origin .length)) _ (c .before .before .before .before .before .before .before .before .before .before .before .before .before .before .before .before .before .before .before .before .before .before .before .before .before .pre .0) _ _ _ _ _ (λ h. omega arith) (c .before .before .before .before .before .before .before .before .before .before .before .before .before .before .write-cause-abort .ensures .0) (sym (c .before .before .before .before .before .before .before .before .before .before .assigned .ensures) ∙ c .before .before .before .before .before .before .before .before .before .if2 .taken) _ (c .before .before .before .before .before .before .before .number-at .ensures) _ _ (c .before .before .before .before .faulted-at .ensures)
 
 cast-t30 : tie.Need-cast-t30
 cast-t30 c = let a = c .before .before .before .before .before .before .before .before .before .before .before .before .before .before .before .before .args in
-    omega (arith, c .before .before .before .before .before .write-cause-abort .ensures .past, abort-fits (a .s .now) (a .m .origin .start) (a .m .origin .length) (a .cause) (c .before .before .before .before .before .before .before .before .before .before .before .before .before .before .before .before .pre .1 .lies .origin .short))
+    omega (arith, c .before .before .before .before .before .write-cause-abort .ensures .0 .past, abort-fits (a .s .now) (a .m .origin .start) (a .m .origin .length) (a .cause) (c .before .before .before .before .before .before .before .before .before .before .before .before .before .before .before .before .pre .1 .lies .origin .short))
 
 same-length-4 : tie.Need-same-length-4
 same-length-4 c = search needs
@@ -70,7 +70,7 @@ same-length-5 c = search needs
 
 returns-3 : tie.Need-returns-3
 returns-3 c = let a = c .before .before .before .before .before .before .before .before .before .before .before .before .before .before .before .before .args in
-    fault-none _ _ _ _ (run-is (a .s .now) (a .m .origin .start) (a .m .origin .length)) _ (c .before .before .before .before .before .before .before .before .before .before .before .before .before .before .before .before .pre .0) _ _ _ _ _ (λ h. omega arith) (c .before .before .before .before .before .write-cause-abort .ensures) (sym (c .before .assigned .ensures) ∙ c .if2 .left)
+    fault-none _ _ _ _ (run-is (a .s .now) (a .m .origin .start) (a .m .origin .length)) _ (c .before .before .before .before .before .before .before .before .before .before .before .before .before .before .before .before .pre .0) _ _ _ _ _ (λ h. omega arith) (c .before .before .before .before .before .write-cause-abort .ensures .0) (sym (c .before .assigned .ensures) ∙ c .if2 .left)
 
 pub faulted-spec : {M : Type 1} → statement M
 faulted-spec =
