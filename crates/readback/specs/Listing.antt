@@ -70,7 +70,7 @@ module _ (s : List ℕ) (lim at : ℕ) where
 
   invoke-told : (id linked : ℕ) (op par : List ℕ) → Allowed (Invoke id linked op par) → Told (invokeOctets id linked op par) (readAs (Invoke id linked op par))
   unfolding Told readAs
-  invoke-told id linked op par (small , most , code , formed) =
+  invoke-told id linked op par (small, most, code, formed) =
       let f : ℕ → Component = λ x. placed invokeTag id linked noProblem x (length par) in
       let c : Code op = code-told op code in
       by-eq {A = ℕ} linked noID 0 0 refl
@@ -84,7 +84,7 @@ module _ (s : List ℕ) (lim at : ℕ) where
 
   result-told : (t id : ℕ) (op par : List ℕ) → Allowed (Result t id op par) → Told (resultOctets t id op par) (readAs (Result t id op par))
   unfolding Told readAs
-  result-told t id op par (tag , small , formed) =
+  result-told t id op par (tag, small, formed) =
       let f : ℕ → Component = λ x. placed t id noID noProblem x (length par) in
       by-eq {A = ℕ} (length op) 0 0 0 refl
       (λ z _. subst (λ (o : List ℕ). Told o f) (result-none op par t id z)
@@ -100,13 +100,13 @@ module _ (s : List ℕ) (lim at : ℕ) where
 
   error-told : (id : ℕ) (err par : List ℕ) → Allowed (Error id err par) → Told (errorOctets id err par) (readAs (Error id err par))
   unfolding Told readAs errorOctets
-  error-told id err par (small , code , formed) has fits room =
+  error-told id err par (small, code, formed) has fits room =
       glue errorTag (idThen id (err ++ par)) (λ x. placed errorTag id noID noProblem x (length par)) error-tagged has fits room
       (λ b e h w. error-reads id err par small (code-told err code) (parameter-told par formed) h (omega (arith, length-append err par)))
 
   reject-told : (id p : ℕ) → Allowed (Reject id p) → Told (rejectOctets id p) (readAs (Reject id p))
   unfolding Told readAs problemOctets
-  reject-told id p (most , by) =
+  reject-told id p (most, by) =
       let f : ℕ → Component = λ x. placed rejectTag id noID p x 0 in
       by-eq {A = ℕ} id noID 0 0 refl
       (λ z _. subst (λ (o : List ℕ). Told o f) (reject-none id p z)
