@@ -1,16 +1,21 @@
 // What a sending writes after a message's head, and what it leaves of the dialogue (01, "Dialogue states").
+use paper::Component;
 use paper::Control;
+use paper::Reading;
 use paper::Reject;
 ghost use mathlib.Core.Path.{_≡_};
 ghost use Prim.Native.Nat.{ℕ, _+_, _*_, _<_, _≤_};
 ghost use lib.ListN.{length};
 ghost use Rattle.laws.specs.If.{ifB};
 ghost use Rattle.laws.specs.Runs.{Wrote};
-ghost use Rattle.paper.specs.Dialogues.{waitingRejects, rejectsFit, sentComponents, withState, withoutRejects, afterSending};
+ghost use Rattle.laws.specs.Lists.{every};
+ghost use Rattle.paper.specs.Components.{components};
+ghost use Rattle.paper.specs.Dialogues.{isPortion, ofClass4, uniRefusal, abortRefusal, waitingRejects, rejectsFit, sentComponents, withState, withoutRejects, afterSending};
 ghost use Rattle.paper.specs.Calls.{placeAt, withPlace};
 ghost use Rattle.paper.specs.Layout.{encode, view, flag};
 ghost use Rattle.facts.specs.Fine.{FineControl};
 ghost use Rattle.facts.specs.Ready.{Ready};
+ghost use Rattle.outgoing.specs.Refused.{class4};
 ghost use Rattle.outgoing.specs.Sent.{Holds, Sends, controlAfter};
 
 fn wide(x: u8) -> usize
@@ -129,4 +134,86 @@ pub fn leave_at(t: &mut [u8], p: usize, c: Control, state: u8, fits: bool)
 {
     let d = control_after(c, state, fits);
     places::sent_at(t, p, d);
+}
+
+// Whether a component is an invoke whose ID is open with class 4.
+fn of_class4(c: Control, k: Component) -> bool
+    ensures { λ r. ⌜ r ≡ class4 c k ⌝ }
+{
+    if k.fault != 3 {
+        return false;
+    }
+    if k.tag != 0xA1 {
+        return false;
+    }
+    let l = c.invocations;
+    let v = invocations::invocation_of(l, k.id);
+    return v.class == 4;
+}
+
+// Whether each of the components is.
+fn each_class4(w: &[u8], c: Control) -> bool
+    ensures { λ r. ⌜ r ≡ every (ofClass4 c) (components (now (w .entry)) (length (now (w .entry))) 0) ⌝ }
+{
+    let n = w.len();
+    let mut at: usize = 0;
+    loop {
+        let k = components::component_at(w, n, at);
+        if !of_class4(c, k) {
+            return false;
+        }
+        at = k.stop;
+        if at >= n {
+            return true;
+        }
+    }
+}
+
+// "Unidirectional with no component or with one not of class 4" (6); it needs Open.
+pub fn uni_refusal(t: &[u8], p: usize, c: Control) -> u32
+    requires { ⌜ Holds (now t) p c ⌝ }
+    ensures { λ r. ⌜ r ≡ uniRefusal (placeAt (view (now (t .entry))) p) ⌝ }
+{
+    if c.state != 1 {
+        return 6;
+    }
+    let w = places::waiting(t, p);
+    if each_class4(w, c) {
+        return 0;
+    }
+    return 6;
+}
+
+// "a whole 6B element or none"
+fn is_portion(s: &[u8]) -> bool
+    ensures { λ r. ⌜ r ≡ isPortion (now (s .entry)) ⌝ }
+{
+    let n = s.len();
+    if n == 0 {
+        return true;
+    }
+    if s[0] != 0x6B {
+        return false;
+    }
+    match elements::element(s, 16, n, 0) {
+        Reading::Ends(e) => {
+            return e == n;
+        }
+        Reading::Fault(_) => {
+            return false;
+        }
+    }
+}
+
+// A user abort's dialogue portion: not one well-formed element of its kind (11), over 240 octets (12).
+pub fn abort_refusal(portion: &[u8]) -> u32
+    ensures { λ r. ⌜ r ≡ abortRefusal (now (portion .entry)) ⌝ }
+{
+    if is_portion(portion) {
+        if portion.len() > 240 {
+            return 12;
+        }
+        return 0;
+    }
+    return 11;
 }
