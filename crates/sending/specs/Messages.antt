@@ -8,11 +8,12 @@ use lib.Seq.{length-take-le}
 use Rattle.laws.specs.Runs.{Wrote, wrote-more, wrote-as}
 use Rattle.paper.specs.declared.Control.{Control}
 use Rattle.paper.specs.Sizes.{idOctets}
-use Rattle.paper.specs.Writing.{tlv, beginOctets, continueOctets, endOctets, uniOctets}
+use Rattle.paper.specs.Messages.{abortTag}
+use Rattle.paper.specs.Writing.{tlv, userAbortOctets}
 use Rattle.paper.specs.Dialogues.{peerOf}
 use Rattle.facts.specs.Fine.{FineControl}
-use Rattle.writing.specs.Heads.{messageHead, beginHead, continueHead, endHead, uniHead, begin-joined, continue-joined, end-joined, uni-joined}
-use Rattle.writing.specs.Lengths.{messageSize, message-small, message-length, id-length, peer-length}
+use Rattle.writing.specs.Heads.{messageHead}
+use Rattle.writing.specs.Lengths.{elementSize, messageSize, length-small, element-length, message-small, message-length, id-length, peer-length}
 
 -- there is room for a message whose IDs take at most 12 octets and whose components 240
 pub head-room : (ids n k : ℕ) → ids ≤ 12 → n ≤ 240 → 272 ≤ k → (messageSize ids n < 65536) × (0 + messageSize ids n ≤ k)
@@ -39,3 +40,13 @@ module _ (c : Control) (f : FineControl c) where
 
   pub both-are : (d : ℕ) → length (tlv 0x48 (idOctets d) ++ tlv 0x49 (peerOf c)) ≡ 8 + c .peerlen
   both-are d = omega (arith, length-append (tlv 0x48 (idOctets d)) (tlv 0x49 (peerOf c)), own-length d, peer-is)
+
+-- ---- a user's Abort
+pub abort-room : (peer n k : ℕ) → peer ≤ 4 → n ≤ 240 → 272 ≤ k → (elementSize (2 + peer + n) < 65536) × (0 + elementSize (2 + peer + n) ≤ k)
+abort-room peer n k h g l = (omega (arith, length-small (2 + peer + n)), omega (arith, length-small (2 + peer + n)))
+
+pub abort-length : (c : Control) → FineControl c → (portion : List ℕ) → length portion ≤ 240 → length (userAbortOctets (peerOf c) portion) ≤ 272
+unfolding userAbortOctets
+abort-length c f portion h =
+    let ids : List ℕ = tlv 0x49 (peerOf c) in
+    omega (arith, element-length abortTag (ids ++ portion), length-small (length (ids ++ portion)), length-append ids portion, peer-is c f, f .peer .most)

@@ -4,11 +4,12 @@ use mathlib.Core.List.{List, []}
 use Prim.Native.Nat.{ℕ, _+_, _<_, _≤_}
 use native.Mathlib.Omega.{arith}
 use lib.ListN.{length}
-use Rattle.laws.specs.If.{ifLt, ifEq, lt, ge, eq, ne, by-lt}
+use Rattle.laws.specs.If.{ifLt, ifEq, lt, ge, eq, ne, by-lt, was-ge, was-yes}
 use Rattle.laws.specs.Runs.{Wrote}
 use Rattle.paper.specs.declared.Control.{Control}
-use Rattle.paper.specs.Dialogues.{Place, Request, done, refusal, does, needsOpen, needsPeer}
-use Rattle.paper.specs.Dialogues.Request.{Begin, Continue, End}
+use Rattle.paper.specs.Dialogues.{Place, Request, done, refusal, does, peerOf, needsOpen, needsPeer, abortRefusal, abortMessage}
+use Rattle.paper.specs.Writing.{userAbortOctets}
+use Rattle.paper.specs.Dialogues.Request.{Begin}
 use Rattle.paper.specs.Calls.{placeAt, withPlace}
 use Rattle.paper.specs.Calls.Call.{OnDialogue}
 use Rattle.paper.specs.Layout.{encode, view}
@@ -69,6 +70,16 @@ module _ (t m : List ℕ) (s d : ℕ) (q : Request) (w : spacesOf q ≡ messageS
 abbrev pub peerRefusal : ℕ → ℕ
 peerRefusal state = ifEq state 3 0 (ifEq state 4 0 6)
 
+-- what an abort writes, by the control record
+abbrev pub abortBy : Control → List ℕ → List ℕ
+abortBy c portion = ifEq (peerRefusal (c .state)) 0 (userAbortOctets (peerOf c) portion) []
+
+pub abort-octets : (portion : List ℕ) → 0 ≡ abortRefusal portion → length portion ≤ 240
+unfolding abortRefusal
+abort-octets portion e =
+    let a = was-yes _ _ _ e (λ z. omega (arith, z)) in
+    was-ge _ _ _ _ (a .1) (λ z. omega (arith, z)) .0
+
 module _ (x : Place) (c : Control) (e : c ≡ x .control) where
   pub begin-no : (c .state ≡ 1 → ⊥) → 6 ≡ refusal x Begin
   unfolding refusal needsOpen
@@ -81,3 +92,7 @@ module _ (x : Place) (c : Control) (e : c ≡ x .control) where
   pub needs-peer : (n : ℕ) → n ≡ peerRefusal (c .state) → n ≡ needsPeer x
   unfolding needsPeer
   needs-peer n h = h ∙ ap (λ (k : Control). peerRefusal (k .state)) e
+
+  pub abort-is : (portion : List ℕ) → abortBy c portion ≡ abortMessage x portion
+  unfolding abortMessage needsPeer
+  abort-is portion = ap (λ (k : Control). abortBy k portion) e
