@@ -1,0 +1,39 @@
+use mathlib.Core.Path.{_≡_, refl, sym, ap, subst, _∙_}
+use mathlib.Core.List.{List, []}
+use Prim.Native.Nat.{ℕ, _+_, _*_, _-_, _<_, _≤_}
+use native.Mathlib.Omega.{arith}
+use lib.ListN.{length, getD}
+use Rattle.laws.specs.If.{yes, no}
+use Rattle.laws.specs.Runs.{Wrote, wrote-none, wrote-more, wrote-as}
+use Rattle.paper.specs.declared.Reject.{Reject}
+use Rattle.paper.specs.declared.Control.{Control}
+use Rattle.paper.specs.Invocations.{allTransmitted}
+use Rattle.paper.specs.Dialogues.{Place, noReject, withState, withoutRejects, waitingRejects, allRejects}
+use Rattle.paper.specs.Calls.{placeAt, withPlace}
+use Rattle.paper.specs.Layout.{encode, view}
+use Rattle.places.specs.Storing.{Storing, withWaiting}
+use Rattle.outgoing.specs.Sent.{firstRejects, none-yet, rejects-more, size-more, holds-fine, reject-asks, fits-is, fits-not, sent-all, sent-none, sent-least, after-storing, after-is}
+use borrow.Author.Needs.{needs}
+use Rattle.outgoing.proofs.control_after.Statement.{statement}
+use Rattle.outgoing.proofs.control_after.Tie as tie
+
+in-state-requires : tie.Need-in-state-requires
+in-state-requires c κs = search needs
+
+sent-out-requires : tie.Need-sent-out-requires
+sent-out-requires c κs = search needs
+
+without-rejects-requires : tie.Need-without-rejects-requires
+without-rejects-requires c κs = search needs
+
+returns : tie.Need-returns
+returns c = yes _ _ _ (c .before .if1 .taken)
+    (c .without-rejects .ensures ∙ ap withoutRejects (c .before .before .sent-out .ensures ∙ ap allTransmitted (c .before .before .before .in-state .ensures)))
+
+returns-2 : tie.Need-returns-2
+returns-2 c = no _ _ _ (c .if1 .left) (c .before .sent-out .ensures ∙ ap allTransmitted (c .before .before .in-state .ensures))
+
+pub control-after-spec : {M : Type 1} → statement M
+control-after-spec =
+    tie.close
+    (tie.spec in-state-requires sent-out-requires without-rejects-requires returns returns-2)

@@ -1,0 +1,47 @@
+use mathlib.Core.Path.{_≡_, refl, sym, ap, subst, _∙_}
+use mathlib.Core.List.{List, [], _++_}
+use Prim.Native.Nat.{ℕ, _+_, _*_, _-_, _<_, _≤_}
+use native.Mathlib.Omega.{arith}
+use lib.ListN.{length, getD}
+use Rattle.laws.specs.If.{yes, no}
+use Rattle.laws.specs.Runs.{Wrote, wrote-none, wrote-more, wrote-as}
+use Rattle.paper.specs.declared.Reject.{Reject}
+use Rattle.paper.specs.declared.Control.{Control}
+use Rattle.paper.specs.Invocations.{allTransmitted}
+use Rattle.paper.specs.Dialogues.{Place, noReject, withState, withoutRejects, waitingRejects, allRejects}
+use Rattle.paper.specs.Calls.{placeAt, withPlace}
+use Rattle.paper.specs.Layout.{encode, view}
+use Rattle.places.specs.Storing.{Storing, withWaiting}
+use Rattle.outgoing.specs.Sent.{firstRejects, none-yet, rejects-more, size-more, holds-fine, reject-asks, fits-is, fits-not, sent-all, sent-none, sent-least, sent-room, after-storing, after-is}
+use borrow.Author.Needs.{needs}
+use Rattle.outgoing.proofs.sent_of.Statement.{statement}
+use Rattle.outgoing.proofs.sent_of.Tie as tie
+
+waiting-length-requires : tie.Need-waiting-length-requires
+waiting-length-requires c κs = search needs
+
+rejects-size-requires : tie.Need-rejects-size-requires
+rejects-size-requires c κs = holds-fine (c .before .before .pre)
+
+add-if1 : tie.Need-add-if1
+add-if1 c = search needs
+
+add-t8 : tie.Need-add-t8
+add-t8 c = search needs
+
+returns : tie.Need-returns
+returns c = let s = c .before .before .before .before in
+    let x : Place = placeAt (view (s .args .t .now)) (s .args .p) in
+    fits-is x (c .before .before .waiting-length .result) (c .before .rejects-size .result) (c .before .before .waiting-length .ensures .0)
+    (c .before .rejects-size .ensures .0 ∙ ap (λ (k : Control). length (waitingRejects k)) (s .pre .control)) (omega arith)
+
+returns-2 : tie.Need-returns-2
+returns-2 c = let s = c .before .before .before .before in
+    let x : Place = placeAt (view (s .args .t .now)) (s .args .p) in
+    fits-not x (c .before .before .waiting-length .result) (c .before .rejects-size .result) (c .before .before .waiting-length .ensures .0)
+    (c .before .rejects-size .ensures .0 ∙ ap (λ (k : Control). length (waitingRejects k)) (s .pre .control)) (omega arith) (c .before .before .waiting-length .ensures .1)
+
+pub sent-of-spec : {M : Type 1} → statement M
+sent-of-spec =
+    tie.close
+    (tie.spec waiting-length-requires rejects-size-requires add-if1 add-t8 returns returns-2)

@@ -1,0 +1,120 @@
+-- WHAT A SENDING IS REFUSED BY: a Unidirectional by a component not of class 4, an abort by its dialogue portion. Assumes nothing.
+use mathlib.Core.Path.{_≡_, refl, sym, ap, _∙_}
+use mathlib.Core.Bool.{Bool, true, false}
+use mathlib.Core.List.{List}
+use Prim.Native.Nat.{ℕ, suc, _+_, _-_, _<_, _≤_}
+use native.Mathlib.Omega.{arith}
+use lib.Dec.{ltb, eqb}
+use lib.ListN.{length, getD}
+use borrow.Author.Tests.{lt-ltb, le-ltb}
+use Rattle.laws.specs.If.{ifB, eq, ne, yes, no, was-eq, true-false}
+use Rattle.laws.specs.Lists.{every}
+use Rattle.paper.specs.declared.Reading.{Reading}
+use Rattle.paper.specs.declared.Reading.the-variants.{Ends, Fault}
+use Rattle.paper.specs.declared.Component.{Component}
+use Rattle.paper.specs.declared.Control.{Control}
+use Rattle.paper.specs.Elements.{element}
+use Rattle.paper.specs.Components.{Item, componentAt, nextStart, goOn, items, components}
+use Rattle.paper.specs.Dialogues.{Place, endsAt, isElement, isPortion, ofClass4, uniRefusal}
+
+-- ---- components one after another: the test of what is left answers for the whole
+pub record Rest (f : Item → Bool) (w : List ℕ) (at : ℕ) : Type 0 where
+  pub turns : ℕ
+  pub enough : length w - at < turns
+  pub same : every f (components w (length w) 0) ≡ every f (items w (length w) turns at)
+
+pub rest-start : (f : Item → Bool) (w : List ℕ) → Rest f w 0
+unfolding components
+rest-start f w = record { turns = length w - 0 + 1; enough = omega arith; same = refl }
+
+module _ (f : Item → Bool) (w : List ℕ) (at : ℕ) (l : Rest f w at) (c : Component) (e : c ≡ componentAt w (length w) at) where
+  abbrev after : Component → Bool
+  after d = every f (goOn (ltb (nextStart (length w) d) (length w)) (λ _. items w (length w) (l .turns - 1) (nextStart (length w) d)))
+
+  split : every f (components w (length w) 0) ≡ ifB (f (record { start = at; part = c })) (after c) false
+  unfolding every items
+  split =
+      let q : l .turns ≡ suc (l .turns - 1) = omega (arith, l .enough) in
+      l .same ∙ ap (λ (k : ℕ). every f (items w (length w) k at)) q ∙ ap (λ (d : Component). ifB (f (record { start = at; part = d })) (after d) false) (sym e)
+
+  pub rest-fails : f (record { start = at; part = c }) ≡ false → false ≡ every f (components w (length w) 0)
+  rest-fails n = no _ _ _ n refl ∙ sym split
+
+  module _ (y : f (record { start = at; part = c }) ≡ true) (s : c .fault ≡ 3) where
+    next : nextStart (length w) c ≡ c .stop
+    unfolding nextStart
+    next = sym (eq _ _ _ _ s refl)
+
+    sound : every f (components w (length w) 0) ≡ every f (goOn (ltb (c .stop) (length w)) (λ _. items w (length w) (l .turns - 1) (c .stop)))
+    sound =
+        split ∙ sym (yes _ _ _ y refl)
+        ∙ ap (λ (k : ℕ). every f (goOn (ltb k (length w)) (λ _. items w (length w) (l .turns - 1) k))) next
+
+    pub rest-end : length w ≤ c .stop → true ≡ every f (components w (length w) 0)
+    unfolding every
+    rest-end h = sym (sound ∙ ap (λ (b : Bool). every f (goOn b (λ _. items w (length w) (l .turns - 1) (c .stop)))) (le-ltb (c .stop) (length w) h))
+
+    pub rest-more : c .stop < length w → at < c .stop → Rest f w (c .stop)
+    rest-more h g = record {
+      turns = l .turns - 1;
+      enough = omega (arith, l .enough);
+      same = sound ∙ ap (λ (b : Bool). every f (goOn b (λ _. items w (length w) (l .turns - 1) (c .stop)))) (lt-ltb (c .stop) (length w) h);
+    }
+
+-- ---- class 4
+abbrev pub class4 : Control → Component → Bool
+class4 c k = ofClass4 c (record { start = 0; part = k })
+
+-- wherever it starts
+pub class4-at : (c : Control) (k : Component) (at : ℕ) → ofClass4 c (record { start = at; part = k }) ≡ class4 c k
+unfolding ofClass4
+class4-at c k at = refl
+
+pub class4-sound : (c : Control) (k : Component) → class4 c k ≡ true → k .fault ≡ 3
+unfolding ofClass4
+class4-sound c k e = was-eq _ _ _ _ (sym e) true-false .0
+
+-- ---- the number
+module _ (x : Place) (c : Control) (e : c ≡ x .control) where
+  pub uni-state : (c .state ≡ 1 → ⊥) → 6 ≡ uniRefusal x
+  unfolding uniRefusal
+  uni-state n = ne _ _ _ _ (λ z. n (ap (λ (k : Control). k .state) e ∙ z)) refl
+
+  module _ (h : c .state ≡ 1) (w : List ℕ) (a : w ≡ x .waiting) (b : Bool) (d : b ≡ every (ofClass4 c) (components w (length w) 0)) where
+    all-are : b ≡ every (ofClass4 (x .control)) (components (x .waiting) (length (x .waiting)) 0)
+    all-are =
+        d ∙ ap (λ (k : Control). every (ofClass4 k) (components w (length w) 0)) e
+        ∙ ap (λ (v : List ℕ). every (ofClass4 (x .control)) (components v (length v) 0)) a
+
+    is-open : x .control .state ≡ 1
+    is-open = sym (ap (λ (k : Control). k .state) e) ∙ h
+
+    pub uni-may : b ≡ true → 0 ≡ uniRefusal x
+    unfolding uniRefusal
+    uni-may y = eq _ _ _ _ is-open (yes _ _ _ (sym all-are ∙ y) refl)
+
+    pub uni-no : b ≡ false → 6 ≡ uniRefusal x
+    unfolding uniRefusal
+    uni-no y = eq _ _ _ _ is-open (no _ _ _ (sym all-are ∙ y) refl)
+
+-- ---- a dialogue portion
+module _ (l : List ℕ) where
+  pub portion-none : length l ≡ 0 → true ≡ isPortion l
+  unfolding isPortion
+  portion-none h = eq _ _ _ _ h refl
+
+  module _ (n : length l ≡ 0 → ⊥) where
+    pub portion-other : (getD l 0 0 ≡ 0x6B → ⊥) → false ≡ isPortion l
+    unfolding isPortion
+    portion-other h = ne _ _ _ _ n (ne _ _ _ _ h refl)
+
+    module _ (h : getD l 0 0 ≡ 0x6B) (r : Reading) (e : r ≡ element l 16 (length l) 0) where
+      read : endsAt (length l) r ≡ isPortion l
+      unfolding isPortion isElement
+      read = ne _ _ _ _ n (eq _ _ _ _ h (ap (endsAt (length l)) e))
+
+      pub portion-ends : (k : ℕ) → r ≡ Ends k → eqb k (length l) ≡ isPortion l
+      portion-ends k q = sym (ap (endsAt (length l)) q) ∙ read
+
+      pub portion-fault : (k : ℕ) → r ≡ Fault k → false ≡ isPortion l
+      portion-fault k q = sym (ap (endsAt (length l)) q) ∙ read

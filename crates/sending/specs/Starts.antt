@@ -1,0 +1,98 @@
+-- A CALL THAT SENDS: its prologue, and its ends. Assumes nothing.
+use mathlib.Core.Path.{_≡_, refl, sym, ap, subst, _∙_}
+use mathlib.Core.List.{List, []}
+use Prim.Native.Nat.{ℕ, _+_, _<_, _≤_}
+use native.Mathlib.Omega.{arith}
+use lib.ListN.{length}
+use Rattle.laws.specs.If.{ifLt, ifEq, lt, ge, eq, ne, by-lt, was-ge, was-yes}
+use Rattle.laws.specs.Runs.{Wrote}
+use Rattle.paper.specs.declared.Control.{Control}
+use Rattle.paper.specs.Dialogues.{Place, Request, done, refusal, does, peerOf, needsOpen, needsPeer, abortRefusal, abortMessage}
+use Rattle.paper.specs.Writing.{userAbortOctets}
+use Rattle.paper.specs.Dialogues.Request.{Begin}
+use Rattle.paper.specs.Calls.{placeAt, withPlace}
+use Rattle.paper.specs.Calls.Call.{OnDialogue}
+use Rattle.paper.specs.Layout.{encode, view}
+use Rattle.paper.specs.Outcome.{Lent, Spaces, outcome, spacesOf, messageSpace}
+use Rattle.entry.specs.declared.Reply.{Reply}
+use Rattle.entry.specs.Replies.{reply, Told}
+use Rattle.entry.specs.Prologue.{entryAt, InDialogue, Meets}
+use Rattle.entry.specs.Ends.{Long, no-rows, space-short, dialogue-refused, dialogue-no, dialogue-done}
+use Rattle.outgoing.specs.Sent.{Holds}
+
+abbrev pub lent : List ℕ → List ℕ → Lent
+lent t m = record { table = t; rows = []; space = m }
+
+-- 1 for a space of n octets that is too short; else the number of every call on a dialogue, and what a 0 hands over
+pub record Starts (t : List ℕ) (n s d answer p : ℕ) : Type 0 where
+  pub is : answer ≡ ifLt n 272 1 (entryAt t s d)
+  pub room : answer ≡ 0 → 272 ≤ n
+  pub inside : answer ≡ 0 → InDialogue t s d p
+
+module _ (t : List ℕ) (n s d : ℕ) where
+  pub starts-short : n < 272 → (p : ℕ) → Starts t n s d 1 p
+  starts-short h p = record { is = lt _ _ _ _ h refl; room = λ z. absurd (omega (arith, z)); inside = λ z. absurd (omega (arith, z)) }
+
+  pub starts : 272 ≤ n → (answer p : ℕ) → Meets t s d answer p → Starts t n s d answer p
+  starts h answer p m = record { is = ge _ _ _ _ h (m .is); room = λ z. h; inside = m .inside }
+
+pub started-holds : {t : List ℕ} {n s d answer p : ℕ} {c : Control} → Starts t n s d answer p → answer ≡ 0 → c ≡ placeAt (view t) p .control → Holds t p c
+started-holds f z e =
+    let u = f .inside z .used in
+    record { ready = u .ready; small = u .small; told = u .told; fine = u .fine; control = e }
+
+-- ---- THE ENDS of a call that takes a message space and writes no row
+module _ (t m : List ℕ) (s d : ℕ) (q : Request) (w : spacesOf q ≡ messageSpace) where
+  long : 272 ≤ length m → Long (lent t m) (OnDialogue s d q)
+  long h = (omega (arith, ap (λ (x : Spaces). x .rows) w), omega (arith, ap (λ (x : Spaces). x .space) w))
+
+  -- refused by its prologue
+  pub send-refused : (n p : ℕ) → Starts t (length m) s d n p → 0 < n → {r : Reply} → r ≡ reply n 0 0 0 → Told (outcome (lent t m) (OnDialogue s d q)) r (lent t m)
+  send-refused n p f h e =
+      by-lt (length m) 272 1 (entryAt t s d) (f .is)
+      (λ g z. space-short (lent t m) (OnDialogue s d q) (omega (arith, ap (λ (x : Spaces). x .rows) w)) (omega (arith, ap (λ (x : Spaces). x .space) w)) (e ∙ ap (λ (k : ℕ). reply k 0 0 0) z))
+      (λ g z. dialogue-refused (lent t m) s d q (long g) n z h e)
+
+  module _ (n p : ℕ) (f : Starts t (length m) s d n p) (z : n ≡ 0) where
+    -- refused by its request
+    pub send-no : (k : ℕ) → k ≡ refusal (placeAt (view t) p) q → 0 < k → {r : Reply} → r ≡ reply k 0 0 0 → Told (outcome (lent t m) (OnDialogue s d q)) r (lent t m)
+    send-no k e h g = dialogue-no (lent t m) s d q (long (f .room z)) p (f .inside z) k e h g
+
+    -- done: the message is written, and the place is y
+    pub send-done : (y : Place) (ms : List ℕ) → 0 ≡ refusal (placeAt (view t) p) q → does d (placeAt (view t) p) q ≡ done y [] ms
+        → (e : ℕ) (u v : List ℕ) → u ≡ encode (withPlace (view t) p y) → Wrote m 0 ms e v → {r : Reply} → r ≡ reply 0 0 e 0
+        → Told (outcome (lent t m) (OnDialogue s d q)) r (lent u v)
+    send-done y ms a b e u v g h {r} k =
+        let x : e ≡ length ms = omega (arith, h .past) in
+        dialogue-done (lent t m) s d q (long (f .room z)) p (f .inside z) y [] ms a b (k ∙ ap (λ (i : ℕ). reply 0 0 i 0) x) g (no-rows []) (h .holds)
+
+-- ---- the states that the requests need
+abbrev pub peerRefusal : ℕ → ℕ
+peerRefusal state = ifEq state 3 0 (ifEq state 4 0 6)
+
+-- what an abort writes, by the control record
+abbrev pub abortBy : Control → List ℕ → List ℕ
+abortBy c portion = ifEq (peerRefusal (c .state)) 0 (userAbortOctets (peerOf c) portion) []
+
+pub abort-octets : (portion : List ℕ) → 0 ≡ abortRefusal portion → length portion ≤ 240
+unfolding abortRefusal
+abort-octets portion e =
+    let a = was-yes _ _ _ e (λ z. omega (arith, z)) in
+    was-ge _ _ _ _ (a .1) (λ z. omega (arith, z)) .0
+
+module _ (x : Place) (c : Control) (e : c ≡ x .control) where
+  pub begin-no : (c .state ≡ 1 → ⊥) → 6 ≡ refusal x Begin
+  unfolding refusal needsOpen
+  begin-no n = ne _ _ _ _ (λ z. n (ap (λ (k : Control). k .state) e ∙ z)) refl
+
+  pub begin-may : c .state ≡ 1 → 0 ≡ refusal x Begin
+  unfolding refusal needsOpen
+  begin-may z = eq _ _ _ _ (sym (ap (λ (k : Control). k .state) e) ∙ z) refl
+
+  pub needs-peer : (n : ℕ) → n ≡ peerRefusal (c .state) → n ≡ needsPeer x
+  unfolding needsPeer
+  needs-peer n h = h ∙ ap (λ (k : Control). peerRefusal (k .state)) e
+
+  pub abort-is : (portion : List ℕ) → abortBy c portion ≡ abortMessage x portion
+  unfolding abortMessage needsPeer
+  abort-is portion = ap (λ (k : Control). abortBy k portion) e
