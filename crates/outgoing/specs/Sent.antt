@@ -10,7 +10,6 @@ use lib.ListN.{length, getD, take, length-append}
 use lib.Seq.{take-suc}
 use borrow.Author.Tests.{le-leb, lt-leb}
 use Rattle.laws.specs.If.{ifB, yes, no}
-use Rattle.laws.specs.Runs.{Wrote, wrote-more, wrote-as}
 use Rattle.paper.specs.declared.Reject.{Reject}
 use Rattle.paper.specs.declared.Control.{Control}
 use Rattle.paper.specs.Writing.{rejectOctets}
@@ -18,7 +17,7 @@ use Rattle.paper.specs.Invocations.{allTransmitted}
 use Rattle.paper.specs.Dialogues.{Place, noReject, withState, withoutRejects, allRejects, waitingRejects, rejectsFit, sentComponents, afterSending}
 use Rattle.paper.specs.Calls.{placeAt}
 use Rattle.paper.specs.Layout.{flag, view}
-use Rattle.facts.specs.Fine.{FineControl, FinePlace, FineReject, FineRejects, Storable}
+use Rattle.facts.specs.Fine.{FineControl, FinePlace, Storable}
 use Rattle.facts.specs.Kept.{layer-small}
 use Rattle.facts.specs.Octets.{fine-storable}
 use Rattle.facts.specs.Ready.{Ready}

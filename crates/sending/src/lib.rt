@@ -4,7 +4,7 @@ use entry::Reply;
 use paper::Control;
 ghost use mathlib.Core.Path.{_≡_};
 ghost use mathlib.Core.List.{[]};
-ghost use Prim.Native.Nat.{ℕ, _+_, _<_, _≤_};
+ghost use Prim.Native.Nat.{_≤_};
 ghost use lib.ListN.{length};
 ghost use Rattle.laws.specs.Runs.{Wrote};
 ghost use Rattle.paper.specs.Sizes.{idOctets};
