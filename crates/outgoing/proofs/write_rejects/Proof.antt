@@ -43,7 +43,7 @@ loop-less c = search needs
 loop-again : tie.Need-loop-again Inv-loop μ-loop
 loop-again c = let k = c .before .before .before .before .before .before in
     let l : List Reject = k .before .before .before .before .args .c .rejects in
-    (search needs, search needs, wrote-as (wrote-more (k .loop .inv .2) refl (c .before .before .write-reject .ensures)) (rejects-more l (k .loop .i) (omega arith)))
+    (search needs, search needs, wrote-as (wrote-more (k .loop .inv .2) refl (c .before .before .write-reject .ensures .0)) (rejects-more l (k .loop .i) (omega arith)))
 
 same-length : tie.Need-same-length Inv-loop μ-loop
 same-length c = search needs

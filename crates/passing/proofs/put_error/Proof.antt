@@ -42,7 +42,7 @@ returns c =
     let pre = c .before .before .before .before .before .before .before .before .before .before .before .pre in
     let write-error = c .before .before .before .before .before .before .write-error in
     let put-control = c .before .before .put-control in
-    appended (args .t .now) (args .p) (args .c) (args .n) (errorOctets (args .id) (args .err .now) (args .par .now)) (pre) (write-error .result) (write-error .last .0) (write-error .ensures) (put-control .last .0) (put-control .ensures)
+    appended (args .t .now) (args .p) (args .c) (args .n) (errorOctets (args .id) (args .err .now) (args .par .now)) (pre) (write-error .result) (write-error .last .0) (write-error .ensures .0) (put-control .last .0) (put-control .ensures)
 
 pub put-error-spec : {M : Type 1} → statement M
 put-error-spec =

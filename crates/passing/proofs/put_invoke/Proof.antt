@@ -42,7 +42,7 @@ returns c =
     let pre = c .before .before .before .before .before .before .before .before .before .before .before .pre in
     let write-invoke = c .before .before .before .before .before .before .write-invoke in
     let put-control = c .before .before .put-control in
-    appended (args .t .now) (args .p) (args .c) (args .n) (invokeOctets (args .id) (args .linked) (args .op .now) (args .par .now)) (pre .0) (write-invoke .result) (write-invoke .last .0) (write-invoke .ensures) (put-control .last .0) (put-control .ensures)
+    appended (args .t .now) (args .p) (args .c) (args .n) (invokeOctets (args .id) (args .linked) (args .op .now) (args .par .now)) (pre .0) (write-invoke .result) (write-invoke .last .0) (write-invoke .ensures .0) (put-control .last .0) (put-control .ensures)
 
 pub put-invoke-spec : {M : Type 1} → statement M
 put-invoke-spec =

@@ -42,7 +42,7 @@ returns c =
     let pre = c .before .before .before .before .before .before .before .before .before .pre in
     let write-reject = c .before .before .before .before .before .before .write-reject in
     let put-control = c .before .before .put-control in
-    appended (args .t .now) (args .p) (args .c) (args .n) (rejectOctets (args .id) (args .problem)) (pre .0) (write-reject .result) (write-reject .last .0) (write-reject .ensures) (put-control .last .0) (put-control .ensures)
+    appended (args .t .now) (args .p) (args .c) (args .n) (rejectOctets (args .id) (args .problem)) (pre .0) (write-reject .result) (write-reject .last .0) (write-reject .ensures .0) (put-control .last .0) (put-control .ensures)
 
 pub put-reject-spec : {M : Type 1} → statement M
 put-reject-spec =

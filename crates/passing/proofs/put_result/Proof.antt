@@ -42,7 +42,7 @@ returns c =
     let pre = c .before .before .before .before .before .before .before .before .before .before .before .pre in
     let write-result = c .before .before .before .before .before .before .write-result in
     let put-control = c .before .before .put-control in
-    appended (args .t .now) (args .p) (args .c) (args .n) (resultOctets (args .tag) (args .id) (args .op .now) (args .par .now)) (pre) (write-result .result) (write-result .last .0) (write-result .ensures) (put-control .last .0) (put-control .ensures)
+    appended (args .t .now) (args .p) (args .c) (args .n) (resultOctets (args .tag) (args .id) (args .op .now) (args .par .now)) (pre) (write-result .result) (write-result .last .0) (write-result .ensures .0) (put-control .last .0) (put-control .ensures)
 
 pub put-result-spec : {M : Type 1} → statement M
 put-result-spec =

@@ -42,8 +42,8 @@ returns-2 c =
     let if1 = c .before .before .before .before .before .before .if1 in
     let write-user-abort = c .before .before .write-user-abort in
     let ms : List ℕ = userAbortOctets (peerOf (args .c)) (args .portion .now) in (
-      wrote-as (write-user-abort .ensures) (eq _ _ _ _ (sym (peer-refusal .ensures) ∙ if1 .left) refl),
-      omega (arith, write-user-abort .ensures .past, abort-length (args .c) (pre .0) (args .portion .now) (pre .1)),
+      wrote-as (write-user-abort .ensures .0) (eq _ _ _ _ (sym (peer-refusal .ensures) ∙ if1 .left) refl),
+      omega (arith, write-user-abort .ensures .0 .past, abort-length (args .c) (pre .0) (args .portion .now) (pre .1)),
     )
 
 pub write-abort-spec : {M : Type 1} → statement M

@@ -27,7 +27,7 @@ write-sent-requires c κs =
     let begin-head = c .before .before .before .begin-head in
     let x : Place = placeAt (view (args .t .now)) (args .p) in
     let own : List ℕ = tlv 0x48 (idOctets (args .dialogue)) in
-    (pre .0, pre .1 .fit, sent-room beginTag (args .n) own (sentComponents x) (omega (arith, own-length (args .dialogue))) (pre .1 .long) (pre .1 .most) (begin-head .ensures) (pre .2))
+    (pre .0, pre .1 .fit, sent-room beginTag (args .n) own (sentComponents x) (omega (arith, own-length (args .dialogue))) (pre .1 .long) (pre .1 .most) (begin-head .ensures .0) (pre .2))
 
 same-length : tie.Need-same-length
 same-length c = search needs
@@ -40,7 +40,7 @@ returns c =
     let write-sent = c .before .before .write-sent in
     let x : Place = placeAt (view (args .t .now)) (args .p) in
     let own : List ℕ = tlv 0x48 (idOctets (args .dialogue)) in
-    message-wrote beginTag (args .n) own (sentComponents x) (omega (arith, own-length (args .dialogue))) (pre .1 .long) (pre .1 .most) (begin-head .ensures) (write-sent .ensures)
+    message-wrote beginTag (args .n) own (sentComponents x) (omega (arith, own-length (args .dialogue))) (pre .1 .long) (pre .1 .most) (begin-head .ensures .0) (write-sent .ensures)
     (begin-joined (idOctets (args .dialogue)) (sentComponents x))
 
 pub write-begin-spec : {M : Type 1} → statement M

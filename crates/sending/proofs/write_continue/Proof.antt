@@ -34,7 +34,7 @@ write-sent-requires c κs =
     let x : Place = placeAt (view (args .t .now)) (args .p) in
     let ids : List ℕ = tlv 0x48 (idOctets (args .dialogue)) ++ tlv 0x49 (peerOf (args .c)) in
     let short : length ids ≤ 12 = omega (arith, both-are (args .c) (holds-fine (pre .0)) (args .dialogue), holds-fine (pre .0) .peer .most) in
-    (pre .0, pre .1 .fit, sent-room continueTag (args .n) ids (sentComponents x) short (pre .1 .long) (pre .1 .most) (continue-head .ensures) (pre .2))
+    (pre .0, pre .1 .fit, sent-room continueTag (args .n) ids (sentComponents x) short (pre .1 .long) (pre .1 .most) (continue-head .ensures .0) (pre .2))
 
 same-length : tie.Need-same-length
 same-length c = search needs
@@ -48,7 +48,7 @@ returns c =
     let x : Place = placeAt (view (args .t .now)) (args .p) in
     let ids : List ℕ = tlv 0x48 (idOctets (args .dialogue)) ++ tlv 0x49 (peerOf (args .c)) in
     let short : length ids ≤ 12 = omega (arith, both-are (args .c) (holds-fine (pre .0)) (args .dialogue), holds-fine (pre .0) .peer .most) in
-    message-wrote continueTag (args .n) ids (sentComponents x) short (pre .1 .long) (pre .1 .most) (continue-head .ensures) (write-sent .ensures)
+    message-wrote continueTag (args .n) ids (sentComponents x) short (pre .1 .long) (pre .1 .most) (continue-head .ensures .0) (write-sent .ensures)
     (ap (λ (k : Control). continueOctets (idOctets (args .dialogue)) (peerOf k) (sentComponents x)) (sym (pre .0 .control)) ∙ continue-joined (idOctets (args .dialogue)) (peerOf (args .c)) (sentComponents x))
 
 pub write-continue-spec : {M : Type 1} → statement M

@@ -33,7 +33,7 @@ write-sent-requires c κs =
     let x : Place = placeAt (view (args .t .now)) (args .p) in
     let ids : List ℕ = tlv 0x49 (peerOf (args .c)) in
     let short : length ids ≤ 12 = omega (arith, peer-is (args .c) (holds-fine (pre .0)), holds-fine (pre .0) .peer .most) in
-    (pre .0, pre .1 .fit, sent-room endTag (args .n) ids (sentComponents x) short (pre .1 .long) (pre .1 .most) (end-head .ensures) (pre .2))
+    (pre .0, pre .1 .fit, sent-room endTag (args .n) ids (sentComponents x) short (pre .1 .long) (pre .1 .most) (end-head .ensures .0) (pre .2))
 
 same-length : tie.Need-same-length
 same-length c = search needs
@@ -47,7 +47,7 @@ returns c =
     let x : Place = placeAt (view (args .t .now)) (args .p) in
     let ids : List ℕ = tlv 0x49 (peerOf (args .c)) in
     let short : length ids ≤ 12 = omega (arith, peer-is (args .c) (holds-fine (pre .0)), holds-fine (pre .0) .peer .most) in
-    message-wrote endTag (args .n) ids (sentComponents x) short (pre .1 .long) (pre .1 .most) (end-head .ensures) (write-sent .ensures)
+    message-wrote endTag (args .n) ids (sentComponents x) short (pre .1 .long) (pre .1 .most) (end-head .ensures .0) (write-sent .ensures)
     (ap (λ (k : Control). endOctets (peerOf k) (sentComponents x)) (sym (pre .0 .control)) ∙ end-joined (peerOf (args .c)) (sentComponents x))
 
 pub write-end-spec : {M : Type 1} → statement M

@@ -23,7 +23,7 @@ write-sent-requires c κs =
     let pre = c .before .before .before .before .before .before .before .pre in
     let uni-head = c .before .before .before .uni-head in
     let x : Place = placeAt (view (args .t .now)) (args .p) in
-    (pre .0, pre .1 .fit, sent-room uniTag (args .n) [] (sentComponents x) (omega arith) (pre .1 .long) (pre .1 .most) (uni-head .ensures) (pre .2))
+    (pre .0, pre .1 .fit, sent-room uniTag (args .n) [] (sentComponents x) (omega arith) (pre .1 .long) (pre .1 .most) (uni-head .ensures .0) (pre .2))
 
 same-length : tie.Need-same-length
 same-length c = search needs
@@ -35,7 +35,7 @@ returns c =
     let uni-head = c .before .before .before .before .before .before .uni-head in
     let write-sent = c .before .before .write-sent in
     let x : Place = placeAt (view (args .t .now)) (args .p) in
-    message-wrote uniTag (args .n) [] (sentComponents x) (omega arith) (pre .1 .long) (pre .1 .most) (uni-head .ensures) (write-sent .ensures)
+    message-wrote uniTag (args .n) [] (sentComponents x) (omega arith) (pre .1 .long) (pre .1 .most) (uni-head .ensures .0) (write-sent .ensures)
     (uni-joined (sentComponents x))
 
 pub write-uni-spec : {M : Type 1} → statement M
