@@ -1,0 +1,60 @@
+//! An independent TCAP engine, to compare the proved one with.
+
+mod calls;
+mod coding;
+mod components;
+mod dialogue;
+mod events;
+mod invocations;
+mod message;
+mod problems;
+mod reader;
+mod receive;
+mod requests;
+mod rows;
+mod rules;
+mod shares;
+mod table;
+mod vectors;
+mod writing;
+
+use std::io::{self, BufRead, Write};
+use std::process::ExitCode;
+use table::Table;
+
+const USAGE: &str = "usage: reference play < FILE | reference make SEED CALLS";
+
+fn main() -> ExitCode {
+    let arguments: Vec<String> = std::env::args().skip(1).collect();
+    let words: Vec<&str> = arguments.iter().map(String::as_str).collect();
+    let done = match words[..] {
+        ["play"] => play(),
+        _ => Err(io::Error::other(USAGE)),
+    };
+    match done {
+        Ok(()) => ExitCode::SUCCESS,
+        Err(error) => {
+            eprintln!("reference: {error}");
+            ExitCode::FAILURE
+        }
+    }
+}
+
+/// Prints the comments and calls of standard input again, with what this engine makes of the calls.
+fn play() -> io::Result<()> {
+    let mut out = io::BufWriter::new(io::stdout().lock());
+    let mut table = Table::zeros();
+    for (number, line) in io::stdin().lock().lines().enumerate() {
+        let line = line?;
+        if vectors::is_expectation(&line) {
+            continue;
+        }
+        writeln!(out, "{line}")?;
+        if !line.starts_with('#') {
+            let bad = || io::Error::other(format!("line {}: no call of the format: {line}", number + 1));
+            let call = vectors::parse(&line).ok_or_else(bad)?;
+            write!(out, "{}", vectors::expectation(&mut table, &call))?;
+        }
+    }
+    out.flush()
+}
