@@ -22,6 +22,7 @@ pub const BAD_SHARES: u8 = 13;
 const LONGEST_MESSAGE: usize = 512;
 
 /// A request on a dialogue, or an event for one.
+#[derive(Clone)]
 pub enum Request {
     Invoke { id: i8, linked: Option<i8>, class: u32, operation: Vec<u8>, parameter: Vec<u8> },
     Result { id: i8, last: bool, operation: Vec<u8>, parameter: Vec<u8> },

@@ -48,7 +48,7 @@ pub fn length(octets: &[u8], at: usize) -> Option<(Length, usize)> {
 }
 
 /// Where the tag at a position ends.
-fn tag_end(octets: &[u8], at: usize) -> Option<usize> {
+pub fn tag_end(octets: &[u8], at: usize) -> Option<usize> {
     let first = *octets.get(at)?;
     if first == 0 {
         return None;

@@ -5,6 +5,7 @@ mod coding;
 mod components;
 mod dialogue;
 mod events;
+mod generator;
 mod invocations;
 mod message;
 mod problems;
@@ -29,6 +30,7 @@ fn main() -> ExitCode {
     let words: Vec<&str> = arguments.iter().map(String::as_str).collect();
     let done = match words[..] {
         ["play"] => play(),
+        ["make", seed, calls] => make(seed, calls),
         _ => Err(io::Error::other(USAGE)),
     };
     match done {
@@ -38,6 +40,13 @@ fn main() -> ExitCode {
             ExitCode::FAILURE
         }
     }
+}
+
+fn make(seed: &str, calls: &str) -> io::Result<()> {
+    let (Ok(seed), Ok(calls)) = (seed.parse(), calls.parse()) else {
+        return Err(io::Error::other(USAGE));
+    };
+    generator::make(&mut io::BufWriter::new(io::stdout().lock()), seed, calls)
 }
 
 /// Prints the comments and calls of standard input again, with what this engine makes of the calls.

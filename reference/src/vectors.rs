@@ -3,6 +3,7 @@
 use crate::calls::{self, Call, Reply, Request};
 use crate::components::{self, Component};
 use crate::reader;
+use crate::requests::Answer;
 use crate::rows;
 use crate::shares::SERVICES;
 use crate::table::Table;
@@ -23,10 +24,7 @@ pub fn is_expectation(line: &str) -> bool {
 /// Makes the call and writes what it gives, one line after another.
 pub fn expectation(table: &mut Table, line: &Line) -> String {
     match line {
-        Line::Call(call) => match calls::call(table, call) {
-            Ok(reply) => done(&reply),
-            Err(answer) => format!("= {answer} - - 0\n"),
-        },
+        Line::Call(call) => answer_text(&calls::call(table, call)),
         Line::Parameter { octets, start, length } => {
             let run = components::parameter(octets, *start, *length);
             format!("= {} {} {}\n", run.start, run.len(), hex(&octets[run.clone()]))
@@ -39,7 +37,15 @@ pub fn expectation(table: &mut Table, line: &Line) -> String {
     }
 }
 
-fn done(reply: &Reply) -> String {
+/// What a call on the table gave.
+pub fn answer_text(answer: &Answer) -> String {
+    match answer {
+        Ok(reply) => reply_text(reply),
+        Err(answer) => format!("= {answer} - - 0\n"),
+    }
+}
+
+fn reply_text(reply: &Reply) -> String {
     let dialogue = reply.dialogue.map_or("-".to_string(), |local_id| format!("{local_id:08X}"));
     let mut text = format!("= 0 {dialogue} {} {}\n", hex(&reply.message), reply.rows.len());
     for row in &reply.rows {
