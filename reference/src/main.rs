@@ -3,6 +3,7 @@
 mod calls;
 mod coding;
 mod components;
+mod cost;
 mod dialogue;
 mod events;
 mod generator;
@@ -23,7 +24,7 @@ use std::io::{self, BufRead, Write};
 use std::process::ExitCode;
 use table::Table;
 
-const USAGE: &str = "usage: reference play < FILE | reference make SEED CALLS";
+const USAGE: &str = "usage: reference play < FILE | reference make SEED CALLS | reference cost CASE ROUNDS";
 
 fn main() -> ExitCode {
     let arguments: Vec<String> = std::env::args().skip(1).collect();
@@ -31,6 +32,7 @@ fn main() -> ExitCode {
     let done = match words[..] {
         ["play"] => play(),
         ["make", seed, calls] => make(seed, calls),
+        ["cost", case, rounds] => cost(case, rounds),
         _ => Err(io::Error::other(USAGE)),
     };
     match done {
@@ -47,6 +49,15 @@ fn make(seed: &str, calls: &str) -> io::Result<()> {
         return Err(io::Error::other(USAGE));
     };
     generator::make(&mut io::BufWriter::new(io::stdout().lock()), seed, calls)
+}
+
+/// Plays a case of cost so many times and prints what its calls gave.
+fn cost(case: &str, rounds: &str) -> io::Result<()> {
+    let rounds = rounds.parse().map_err(|_| io::Error::other(USAGE))?;
+    let unknown = || io::Error::other(format!("no such case; there are {}", cost::CASES));
+    let sums = cost::run(case, rounds).ok_or_else(unknown)?;
+    println!("{case}: {} calls answered 0, {} rows, {} octets of messages", sums.calls, sums.rows, sums.octets);
+    Ok(())
 }
 
 /// Prints the comments and calls of standard input again, with what this engine makes of the calls.

@@ -4,7 +4,7 @@ use super::random::Random;
 use super::recorder::Recorder;
 use super::samples::{self, Parts};
 use super::traffic::{odd_element, odd_portion};
-use super::tree::{any_node, leaf, Tree};
+use super::tree::{any_node, edge_length, leaf, Tree};
 use crate::calls::{Reply, Request};
 
 const SERVICE: u32 = 9;
@@ -77,8 +77,10 @@ fn any_message(random: &mut Random, local_id: u32) -> Tree {
 }
 
 fn deep_portion(random: &mut Random) -> Tree {
-    if random.chance(50) {
-        return samples::portion(random);
+    match random.below(4) {
+        0 | 1 => return samples::portion(random),
+        2 => return any_edge(random, 0x6B, Vec::new()),
+        _ => {}
     }
     let levels = random.within(14, 17);
     let nest = samples::nested(random, levels);
@@ -90,9 +92,20 @@ fn components(random: &mut Random) -> Vec<Tree> {
     let ids = [-128, 127, 5];
     match random.below(8) {
         0 | 1 => vec![deep_component(random)],
+        3 => vec![any_edge(random, 0xA1, vec![leaf(0x02, &[5]), leaf(0x02, &[0x3C])])],
         2 if random.chance(20) => (0..random.within(60, 100)).map(|number| small_component(number as u8)).collect(),
         _ => (0..random.below(4)).map(|_| samples::component(random, &ids)).collect(),
     }
+}
+
+/// A constructor with an element whose length is at an edge, or itself of such a length.
+fn any_edge(random: &mut Random, tag: u8, mut pieces: Vec<Tree>) -> Tree {
+    if random.chance(15) {
+        return edge_length(random, tag);
+    }
+    let inner = random.pick(&[0x04, 0x04, 0x30]);
+    pieces.push(edge_length(random, inner));
+    any_node(random, tag, pieces)
 }
 
 fn small_component(number: u8) -> Tree {

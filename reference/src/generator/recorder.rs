@@ -9,6 +9,9 @@ use crate::shares::SERVICES;
 use crate::table::{Table, PLACES};
 use crate::vectors::{self, Line};
 
+/// No message is longer: 513 are too many already.
+const LONGEST: usize = 600;
+
 pub struct Recorder {
     table: Table,
     /// Each call with what it gave.
@@ -34,7 +37,10 @@ impl Recorder {
     }
 
     /// Makes a call; its reply is empty where it is refused.
-    pub fn call(&mut self, call: Call) -> Reply {
+    pub fn call(&mut self, mut call: Call) -> Reply {
+        if let Call::Receive { octets, .. } = &mut call {
+            octets.truncate(LONGEST);
+        }
         let answer = calls::call(&mut self.table, &call);
         self.calls.push(format!("{}\n{}", Line::Call(call), vectors::answer_text(&answer)));
         answer.unwrap_or_default()
@@ -59,6 +65,7 @@ impl Recorder {
 
     /// Asks for a message's components, and for parameters at and near their places.
     pub fn read_message(&mut self, random: &mut Random, octets: &[u8]) {
+        let octets = &octets[..octets.len().min(LONGEST)];
         self.read(Line::Components { octets: octets.to_vec() });
         let mut runs: Vec<_> = reader::components(octets).into_iter().map(|component| component.run).collect();
         let start = random.below(octets.len() + 2);

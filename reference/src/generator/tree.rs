@@ -50,6 +50,13 @@ pub fn any_node(random: &mut Random, tag: u8, children: Vec<Tree>) -> Tree {
     Tree::Node { tag: vec![tag], children, indefinite: random.chance(25) }
 }
 
+/// An element whose length is at the edge of a form, in any of the forms.
+pub fn edge_length(random: &mut Random, tag: u8) -> Tree {
+    let length = random.pick(&[0, 1, 126, 127, 128, 129, 254, 255, 256, 257]);
+    let contents: Vec<u8> = if random.chance(50) { vec![0x05, 0x00].repeat(length / 2) } else { vec![0; length] };
+    Tree::Raw([vec![tag], length_octets(random, contents.len()), contents].concat())
+}
+
 pub fn sound_long_tag(random: &mut Random) -> Vec<u8> {
     random.pick(&LONG_TAGS[..SOUND_LONG_TAGS]).to_vec()
 }
@@ -196,19 +203,21 @@ fn with_other_length(tree: &Tree, random: &mut Random) -> Vec<u8> {
         Tree::Node { tag, children, .. } => (tag.clone(), encode_all(children)),
         Tree::Raw(octets) => (Vec::new(), octets.clone()),
     };
-    let length = contents.len();
+    [tag, length_octets(random, contents.len()), contents].concat()
+}
+
+/// Length octets for so many octets: in one of the forms, or one too small or large, or any.
+fn length_octets(random: &mut Random, length: usize) -> Vec<u8> {
     let (high, low) = ((length >> 8) as u8, length as u8);
-    let length_octets = match random.below(8) {
+    match random.below(11) {
         0 => vec![0x80],
-        1 => vec![0x81, low],
-        2 => vec![0x82, high, low],
-        3 => vec![0x83, 0, high, low],
-        4 => vec![0x84, 0, 0, high, low],
-        5 => vec![low.wrapping_add(1)],
-        6 => vec![low.wrapping_sub(1)],
+        1..=3 => vec![0x81, low],
+        4..=6 => vec![0x82, high, low],
+        7 => vec![0x83, 0, high, low],
+        8 => vec![0x84, 0, 0, high, low],
+        9 => vec![random.pick(&[low, low.wrapping_add(1), low.wrapping_sub(1)])],
         _ => vec![random.octet()],
-    };
-    [tag, length_octets, contents].concat()
+    }
 }
 
 fn damage_contents(tree: &mut Tree, random: &mut Random) {
