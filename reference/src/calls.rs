@@ -57,7 +57,11 @@ pub struct Reply {
 }
 
 pub fn refuse_unless(condition: bool, number: u8) -> Result<(), u8> {
-    if condition { Ok(()) } else { Err(number) }
+    if condition {
+        Ok(())
+    } else {
+        Err(number)
+    }
 }
 
 /// Fresh does not look at the table; every other call first checks the whole of it.

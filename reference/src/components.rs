@@ -165,7 +165,11 @@ impl<'a> Pieces<'a> {
     }
 
     fn take_tagged(&mut self, tag: u8) -> Option<Frame> {
-        if self.next_tag() == Some(tag) { self.take() } else { None }
+        if self.next_tag() == Some(tag) {
+            self.take()
+        } else {
+            None
+        }
     }
 
     /// A piece of one octet.

@@ -28,10 +28,11 @@ struct Bench {
 
 /// Plays a case so many times; none where there is no such case.
 pub fn run(case: &str, rounds: usize) -> Option<Sums> {
+    let continue_with_invoke = continue_to(0, &writing::invoke(5, None, &OPERATION, &[]));
     match case {
-        "continue-1" => Some(receive(1, rounds, &continue_to(0, &writing::invoke(5, None, &OPERATION, &[])))),
-        "continue-64" => Some(receive(64, rounds, &continue_to(0, &writing::invoke(5, None, &OPERATION, &[])))),
-        "continue-128" => Some(receive(128, rounds, &continue_to(0, &writing::invoke(5, None, &OPERATION, &[])))),
+        "continue-1" => Some(receive(1, rounds, &continue_with_invoke)),
+        "continue-64" => Some(receive(64, rounds, &continue_with_invoke)),
+        "continue-128" => Some(receive(128, rounds, &continue_with_invoke)),
         "malformed" => Some(receive(1, rounds, &malformed())),
         "unidirectional" => Some(receive(1, rounds, &unidirectional())),
         "lifetime" => Some(lifetime(rounds)),

@@ -68,7 +68,8 @@ impl Dialogue {
     /// The components that a sending writes: those that wait, then the rejects if all fit.
     pub fn send(&mut self) -> Vec<u8> {
         let mut components = std::mem::take(&mut self.waiting);
-        let rejects: Vec<u8> = self.rejects.iter().flat_map(|reject| writing::reject(reject.id, reject.problem)).collect();
+        let rejects: Vec<u8> =
+            self.rejects.iter().flat_map(|reject| writing::reject(reject.id, reject.problem)).collect();
         if components.len() + rejects.len() <= MOST_WAITING {
             components.extend(rejects);
             self.rejects.clear();

@@ -1,5 +1,6 @@
 //! Seeded sequences of calls with what this engine makes of them.
 
+mod asked;
 mod floods;
 mod limits;
 mod octets;

@@ -48,10 +48,7 @@ const CODES: [(u8, u8, Sender); 19] = [
 impl Problem {
     /// Who sends it; none where it is not in the list.
     pub fn sender(self) -> Option<Sender> {
-        CODES
-            .iter()
-            .find(|(kind, code, _)| (*kind, *code) == (self.kind, self.code))
-            .map(|(_, _, sender)| *sender)
+        CODES.iter().find(|(kind, code, _)| (*kind, *code) == (self.kind, self.code)).map(|(_, _, sender)| *sender)
     }
 
     /// The number that rows and requests give it.

@@ -91,7 +91,11 @@ impl Row {
 }
 
 fn l_reject(stored: bool) -> u32 {
-    if stored { L_REJECT_STORED } else { L_REJECT_NOT_STORED }
+    if stored {
+        L_REJECT_STORED
+    } else {
+        L_REJECT_NOT_STORED
+    }
 }
 
 fn component_kind(component: &Component) -> u32 {

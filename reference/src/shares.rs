@@ -55,5 +55,9 @@ pub fn used(table: &Table) -> Used {
 /// The place that a service gets, if it gets one: the lowest free.
 pub fn place_for(table: &Table, service: u8) -> Option<usize> {
     let granted = table.shares().grants(service.into(), &used(table), table.free_places());
-    if granted { table.lowest_free() } else { None }
+    if granted {
+        table.lowest_free()
+    } else {
+        None
+    }
 }

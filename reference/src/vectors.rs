@@ -129,9 +129,7 @@ fn request_text(request: &Request) -> (&'static str, String) {
 pub fn parse(line: &str) -> Option<Line> {
     let mut fields = Fields(line.split(' '));
     let parsed = match fields.text()? {
-        "parameter" => {
-            Line::Parameter { octets: fields.octets()?, start: fields.number()?, length: fields.number()? }
-        }
+        "parameter" => Line::Parameter { octets: fields.octets()?, start: fields.number()?, length: fields.number()? },
         "components" => Line::Components { octets: fields.octets()? },
         verb => Line::Call(fields.call(verb)?),
     };
@@ -186,11 +184,9 @@ impl<'a> Fields<'a> {
             "fresh" => Call::Fresh { guarantees: self.sixteen()?, limits: self.sixteen()? },
             "open" => Call::Open { service: self.number()? },
             "recv" => Call::Receive { service: self.number()?, octets: self.octets()? },
-            verb => Call::OnDialogue {
-                service: self.number()?,
-                local_id: self.local_id()?,
-                request: self.request(verb)?,
-            },
+            verb => {
+                Call::OnDialogue { service: self.number()?, local_id: self.local_id()?, request: self.request(verb)? }
+            }
         })
     }
 
@@ -227,7 +223,7 @@ impl<'a> Fields<'a> {
 }
 
 fn octets_of(hex: &str) -> Option<Vec<u8>> {
-    if hex.len() % 2 != 0 || !hex.is_ascii() {
+    if hex.len() % 2 == 1 || !hex.is_ascii() {
         return None;
     }
     (0..hex.len()).step_by(2).map(|at| u8::from_str_radix(&hex[at..at + 2], 16).ok()).collect()

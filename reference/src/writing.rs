@@ -43,7 +43,11 @@ pub fn reject(id: Option<i8>, problem: Problem) -> Vec<u8> {
 
 /// The 6C; components that are none have none.
 fn component_portion(components: &[u8]) -> Vec<u8> {
-    if components.is_empty() { Vec::new() } else { write(0x6C, components) }
+    if components.is_empty() {
+        Vec::new()
+    } else {
+        write(0x6C, components)
+    }
 }
 
 fn originating(local_id: u32) -> Vec<u8> {

@@ -13,12 +13,12 @@ pub fn sequences(random: &mut Random) -> Vec<Recorder> {
         recorder.call(odd_fresh(random));
     }
     recorder.call(fresh(random));
-    let mut crowd = random.pick(&[10, 30, 60]);
+    let mut leaving = random.pick(&[10, 30, 60]);
     for _ in 0..random.within(150, 500) {
         if random.chance(2) {
-            crowd = random.pick(&[2, 10, 30, 60]);
+            leaving = random.pick(&[2, 10, 30, 60]);
         }
-        step(&mut recorder, random, crowd);
+        step(&mut recorder, random, leaving);
     }
     vec![recorder]
 }
@@ -57,10 +57,10 @@ fn odd_fresh(random: &mut Random) -> Call {
     Call::Fresh { guarantees, limits }
 }
 
-/// A service takes a place, or gives one back; the larger the crowd, the more give back.
-fn step(recorder: &mut Recorder, random: &mut Random, crowd: usize) {
+/// A service takes a place, or gives one back in so many of a hundred steps.
+fn step(recorder: &mut Recorder, random: &mut Random, leaving: usize) {
     let service = random.below(SERVICES) as u32;
-    if random.chance(100 - crowd.min(90)) {
+    if random.chance(100 - leaving) {
         let favourite = if random.chance(60) { service / 4 * 4 } else { service };
         return take(recorder, random, favourite);
     }

@@ -1,9 +1,9 @@
 //! The edges of Coding: tags, lengths, nesting, order and endings, at every level of a message.
 
+use super::asked::{odd_element, odd_portion};
 use super::random::Random;
 use super::recorder::Recorder;
 use super::samples::{self, Parts};
-use super::traffic::{odd_element, odd_portion};
 use super::tree::{any_node, edge_length, leaf, Tree};
 use crate::calls::{Reply, Request};
 

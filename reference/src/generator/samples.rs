@@ -87,10 +87,10 @@ fn constructor(mut tag: Vec<u8>) -> Vec<u8> {
 
 /// Constructors in one another, as many levels as said, the innermost empty or with a primitive as the last level.
 pub fn nested(random: &mut Random, levels: usize) -> Tree {
-    let indefinite = random.below(3);
+    let percent_indefinite = random.pick(&[0, 50, 100]);
     let mut tree = if random.chance(50) { leaf(0x04, &[]) } else { any_node(random, 0x30, Vec::new()) };
     for _ in 1..levels {
-        let indefinite = indefinite == 2 || indefinite == 1 && random.chance(50);
+        let indefinite = random.chance(percent_indefinite);
         tree = Tree::Node { tag: vec![0x30], children: vec![tree], indefinite };
     }
     tree

@@ -5,8 +5,15 @@ use crate::coding;
 
 #[derive(Clone)]
 pub enum Tree {
-    Leaf { tag: Vec<u8>, octets: Vec<u8> },
-    Node { tag: Vec<u8>, children: Vec<Tree>, indefinite: bool },
+    Leaf {
+        tag: Vec<u8>,
+        octets: Vec<u8>,
+    },
+    Node {
+        tag: Vec<u8>,
+        children: Vec<Tree>,
+        indefinite: bool,
+    },
     /// Octets as they are, sound or not.
     Raw(Vec<u8>),
 }
@@ -53,7 +60,7 @@ pub fn any_node(random: &mut Random, tag: u8, children: Vec<Tree>) -> Tree {
 /// An element whose length is at the edge of a form, in any of the forms.
 pub fn edge_length(random: &mut Random, tag: u8) -> Tree {
     let length = random.pick(&[0, 1, 126, 127, 128, 129, 254, 255, 256, 257]);
-    let contents: Vec<u8> = if random.chance(50) { vec![0x05, 0x00].repeat(length / 2) } else { vec![0; length] };
+    let contents: Vec<u8> = if random.chance(50) { [0x05, 0x00].repeat(length / 2) } else { vec![0; length] };
     Tree::Raw([vec![tag], length_octets(random, contents.len()), contents].concat())
 }
 
