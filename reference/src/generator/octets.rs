@@ -68,7 +68,7 @@ fn any_message(random: &mut Random, local_id: u32) -> Tree {
         4..=6 => (0x65, Some(peer), Some(destination)),
         7 => (0x61, None, None),
         8 if random.chance(30) => (0x64, None, Some(destination)),
-        8 => (random.pick(&[0x63, 0x60, 0x42, 0x7E]), Some(peer), Some(destination)),
+        8 => (random.pick(&[0x63, 0x60, 0x42, 0x7E, 0x7F, 0x5F]), Some(peer), Some(destination)),
         _ => return samples::abort(random, &destination),
     };
     let portion = random.chance(30).then(|| deep_portion(random));

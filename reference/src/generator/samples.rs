@@ -186,7 +186,20 @@ pub fn message(random: &mut Random, parts: Parts) -> Tree {
     contents.extend(parts.destination.map(|id| leaf(0x49, &id)));
     contents.extend(parts.portion);
     contents.extend(parts.components.map(|components| any_node(random, 0x6C, components)));
+    with_stray(random, &mut contents);
     any_node(random, parts.kind, contents)
+}
+
+/// Now and then an element where it does not belong.
+fn with_stray(random: &mut Random, contents: &mut Vec<Tree>) {
+    if !random.chance(4) {
+        return;
+    }
+    let components = vec![Tree::Raw(vec![0xA2, 3, 2, 1, 5])];
+    let ids = [leaf(0x48, &[7]), leaf(0x49, &[7]), leaf(0x4A, &[1])];
+    let others = [node(0x6B, Vec::new()), node(0x6C, components), leaf(0x05, &[])];
+    let stray = random.pick(&[ids, others].concat());
+    contents.insert(random.below(contents.len() + 1), stray);
 }
 
 /// An Abort, with a cause, a portion or neither.
@@ -197,5 +210,6 @@ pub fn abort(random: &mut Random, destination: &[u8]) -> Tree {
         1 => contents.push(leaf(0x4A, &[random.below(6) as u8])),
         _ => contents.push(portion(random)),
     }
+    with_stray(random, &mut contents);
     any_node(random, 0x67, contents)
 }
