@@ -147,7 +147,7 @@ fn portion(recorder: &mut Recorder, random: &mut Random, local_id: u32) {
 /// A Begin of 510 to 513 octets.
 fn message_size(recorder: &mut Recorder, random: &mut Random) {
     let mut contents = coding::write(0x48, &[7]);
-    let parameter = coding::write(0x04, &vec![0; random.within(478, 486)]);
+    let parameter = coding::write(0x04, &vec![0; random.within(485, 488)]);
     contents.extend(coding::write(0x6C, &writing::invoke(-128, None, &OPERATION, &parameter)));
     let octets = coding::write(0x62, &contents);
     recorder.receive(SERVICE, octets.clone());

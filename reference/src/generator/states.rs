@@ -83,13 +83,11 @@ fn invoke(random: &mut Random, id: i8) -> Request {
 
 /// The octets of one or two components about this ID, some with a syntax fault.
 fn component(random: &mut Random, id: i8) -> Vec<u8> {
-    let mut octets = match random.below(10) {
-        0..=5 => samples::component(random, &[id]).encode(),
-        6 => {
-            let invoke = samples::invoke(random, 77, Some(id));
-            invoke.encode()
-        }
-        7 => faulty(random, id).encode(),
+    let mut octets = match random.below(12) {
+        0..=4 => samples::component(random, &[id]).encode(),
+        5 | 6 => samples::reject(random, Some(id)).encode(),
+        7 => samples::invoke(random, 77, Some(id)).encode(),
+        8..=10 => faulty(random, id).encode(),
         _ => {
             let component = samples::component(random, &[id]);
             component.damaged(random, 1)
@@ -103,7 +101,7 @@ fn component(random: &mut Random, id: i8) -> Vec<u8> {
 
 /// A component with a frame and an ID, but a piece missing, wrong or too much.
 fn faulty(random: &mut Random, id: i8) -> Tree {
-    let tag = random.pick(&[0xA1, 0xA2, 0xA3, 0xA4, 0xA7, 0xA5, 0xA0, 0x30, 0x24]);
+    let tag = random.pick(&[0xA1, 0xA2, 0xA3, 0xA4, 0xA4, 0xA4, 0xA7, 0xA5, 0xA0, 0x30, 0x24]);
     let mut pieces = vec![leaf(0x02, &[id as u8])];
     match random.below(6) {
         0 => {}
