@@ -1,0 +1,260 @@
+/*
+ * tcap.h - Cipthraku, a TCAP engine (ITU-T Q.773, Q.774) that is proved correct.
+ *
+ * The engine has no memory of its own. The host lends it one table of tcap_table_size() octets with every call, and the table is the
+ * whole state: keep it, hand it on unaltered to the next call, and use one table from one thread at a time.
+ *
+ * Every call answers with a number. 0 is done; any other number is a refusal, and a refusal changes no octet of the table, the rows
+ * or the message space. No call fails in any other way: every call ends, whatever octets and numbers it is given.
+ *
+ * A slice is two arguments, a pointer and a count of octets. A pointer is never NULL: for no octets pass TCAP_NONE. A space that the
+ * engine writes (table, rows, message space) overlaps nothing else that is lent; octets that are only read may overlap each other.
+ */
+#ifndef TCAP_H
+#define TCAP_H
+
+#include <stddef.h>
+#include <stdint.h>
+
+#ifdef __cplusplus
+extern "C" {
+#endif
+
+/* ---- SIZES -------------------------------------------------------------------------------------------------------------------- */
+
+#define TCAP_TABLE_OCTETS 36400     /* the table; tcap_table_size() gives the same number */
+#define TCAP_SERVICES 16            /* services (TC-users) are 0 to 15 */
+#define TCAP_PLACES 128             /* dialogues at a time, of all services together */
+#define TCAP_INVOCATIONS 8          /* open invocations of ours a dialogue */
+#define TCAP_WAITING_OCTETS 240     /* octets of components that wait to be sent, a dialogue; the most of a dialogue portion given */
+#define TCAP_WAITING_REJECTS 8      /* rejects of the engine's own that wait to be sent, a dialogue */
+#define TCAP_MESSAGE_OCTETS 512     /* the longest message received */
+#define TCAP_SPACE_OCTETS 272       /* the least message space; no message written is longer */
+#define TCAP_ROW_OCTETS 32          /* a row: 8 numbers of 4 octets, least significant octet first */
+#define TCAP_ROWS 128               /* rows that the least row space holds; no call writes more */
+#define TCAP_ROWS_OCTETS 4096       /* the least row space */
+
+/* No octets: two arguments, as in tcap_invoke(.., operation, 3, TCAP_NONE). */
+#define TCAP_NONE ((const uint8_t *)""), ((size_t)0)
+
+/* ---- ANSWERS: the lowest that applies ------------------------------------------------------------------------------------------ */
+
+enum tcap_answer {
+    TCAP_DONE = 0,            /* done; or a received message was dropped: no row, no message, no octet changed */
+    TCAP_WRONG_SIZE = 1,      /* a lent space or the table has the wrong size */
+    TCAP_BROKEN_TABLE = 2,    /* the table breaks a rule: it isn't one that a call left */
+    TCAP_NO_SERVICE = 3,      /* service above 15 */
+    TCAP_MESSAGE_SIZE = 4,    /* received message of 0 or over 512 octets */
+    TCAP_NO_DIALOGUE = 5,     /* no such dialogue, or another service's */
+    TCAP_WRONG_STATE = 6,     /* the dialogue's state doesn't take the request; Unidirectional without a component or with one not of class 4 */
+    TCAP_NO_PLACE = 7,        /* open: no place for this service (its limit, or the others' guarantees) */
+    TCAP_WRONG_CODE = 8,      /* class not 1 to 4, or a problem that the user may not send */
+    TCAP_WRONG_INVOCATION = 9,/* the invoke ID is in a state other than the request needs (a new invoke needs an ID not in use) */
+    TCAP_INVOCATIONS_FULL = 10,/* 8 invocations are open already */
+    TCAP_WRONG_OCTETS = 11,   /* octets given are not one well-formed element of their kind, or nest too deep; only one of a result's operation and parameter */
+    TCAP_TOO_LONG = 12,       /* waiting components, or the dialogue portion given, over 240 octets */
+    TCAP_WRONG_SHARES = 13    /* fresh: a guarantee above its limit, a limit above 128, or guarantees over 128 together */
+};
+
+/* ---- ROWS: what a received message or a timer event tells ---------------------------------------------------------------------- */
+
+enum tcap_row_field {         /* the eight numbers of a row */
+    TCAP_ROW_KIND = 0,        /* enum tcap_row_kind */
+    TCAP_ROW_DIALOGUE = 1,    /* the local ID; 0 in UNI and its components */
+    TCAP_ROW_INVOKE_ID = 2,   /* invoke ID plus 128; TCAP_NO_ID: none */
+    TCAP_ROW_LINKED_ID = 3,   /* linked ID plus 128; TCAP_NO_ID: none */
+    TCAP_ROW_PROBLEM = 4,     /* a problem (TCAP_PROBLEM), or the cause in P-ABORT; TCAP_NO_PROBLEM: none */
+    TCAP_ROW_START = 5,       /* start and length of the component or dialogue portion in the message; 0, 0: none, or no frame */
+    TCAP_ROW_LENGTH = 6,
+    TCAP_ROW_FOLLOWING = 7    /* component rows that follow */
+};
+
+enum tcap_row_kind {
+    TCAP_UNI = 1,             /* the dialogue rows; component rows follow */
+    TCAP_BEGIN = 2,
+    TCAP_CONTINUE = 3,
+    TCAP_END = 4,             /* the dialogue is over after 4, 5 and 6 */
+    TCAP_U_ABORT = 5,
+    TCAP_P_ABORT = 6,
+    TCAP_INVOKE = 7,          /* the component rows */
+    TCAP_RESULT_L = 8,
+    TCAP_RESULT_NL = 9,
+    TCAP_U_ERROR = 10,
+    TCAP_U_REJECT = 11,       /* the partner's user rejects */
+    TCAP_R_REJECT = 12,       /* the partner's component sub-layer rejects */
+    TCAP_L_REJECT = 13,       /* the engine rejects, and the reject waits to be sent */
+    TCAP_L_REJECT_ONLY = 14,  /* the engine rejects, and no reject waits: there is no room, or none may be sent */
+    TCAP_L_CANCEL = 15        /* an invocation timed out */
+};
+
+#define TCAP_NO_ID 256u
+#define TCAP_NO_PROBLEM 65535u
+
+/* A problem is one number: (tag - 128) * 256 + code, with the kinds general 0, invoke 1, result 2, error 3. */
+#define TCAP_PROBLEM(kind, code) ((uint32_t)(kind) * 256u + (uint32_t)(code))
+
+enum tcap_problem {           /* U: the user may send it with tcap_reject; the others only the engine sends */
+    TCAP_UNRECOGNIZED_COMPONENT = 0,
+    TCAP_MISTYPED_COMPONENT = 1,
+    TCAP_BADLY_STRUCTURED_COMPONENT = 2,
+    TCAP_DUPLICATE_INVOKE_ID = 256,             /* U */
+    TCAP_UNRECOGNIZED_OPERATION = 257,          /* U */
+    TCAP_MISTYPED_INVOKE_PARAMETER = 258,       /* U */
+    TCAP_RESOURCE_LIMITATION = 259,             /* U */
+    TCAP_INITIATING_RELEASE = 260,              /* U */
+    TCAP_UNRECOGNIZED_LINKED_ID = 261,
+    TCAP_LINKED_RESPONSE_UNEXPECTED = 262,      /* U */
+    TCAP_UNEXPECTED_LINKED_OPERATION = 263,     /* U */
+    TCAP_RESULT_UNRECOGNIZED_INVOKE_ID = 512,
+    TCAP_RESULT_UNEXPECTED = 513,
+    TCAP_MISTYPED_RESULT_PARAMETER = 514,       /* U */
+    TCAP_ERROR_UNRECOGNIZED_INVOKE_ID = 768,
+    TCAP_ERROR_UNEXPECTED = 769,
+    TCAP_UNRECOGNIZED_ERROR = 770,              /* U */
+    TCAP_UNEXPECTED_ERROR = 771,                /* U */
+    TCAP_MISTYPED_ERROR_PARAMETER = 772         /* U */
+};
+
+enum tcap_cause {             /* of a P-ABORT row; TCAP_NO_PROBLEM where the no-reaction timer gave it */
+    TCAP_UNRECOGNIZED_MESSAGE = 0,
+    TCAP_UNRECOGNIZED_TRANSACTION = 1,
+    TCAP_BADLY_FORMATTED_PORTION = 2,
+    TCAP_INCORRECT_PORTION = 3,
+    TCAP_RESOURCE_LIMIT = 4
+};
+
+/* One number of a row: tcap_row(rows, 0, TCAP_ROW_KIND) is the first row's kind. */
+static inline uint32_t tcap_row(const uint8_t *rows, size_t row, enum tcap_row_field field)
+{
+    const uint8_t *p = rows + row * TCAP_ROW_OCTETS + (size_t)field * 4;
+    return (uint32_t)p[0] | (uint32_t)p[1] << 8 | (uint32_t)p[2] << 16 | (uint32_t)p[3] << 24;
+}
+
+/* ---- WHAT EVERY CALL RETURNS --------------------------------------------------------------------------------------------------- */
+
+struct tcap_reply {
+    uint32_t answer;          /* enum tcap_answer; at any but TCAP_DONE the other three are 0 */
+    uint32_t rows;            /* rows written to the row space */
+    uint32_t length;          /* octets of message written to the message space; 0: no message */
+    uint32_t dialogue;        /* the local ID that tcap_open gives; 0 in every other call (0 is an ID too: the answer decides) */
+};
+
+/* ---- THE TABLE ----------------------------------------------------------------------------------------------------------------- */
+
+/* The octets of a table, always TCAP_TABLE_OCTETS. */
+size_t tcap_table_size(void);
+
+/*
+ * Makes an empty table, whatever the octets were. Guarantees and limits are 16 octets each, one a service: a service is never refused
+ * a dialogue while it has fewer than its guarantee, and never has more than its limit.
+ * Answers 0, 1, 13.
+ */
+struct tcap_reply tcap_fresh(uint8_t *table, size_t table_octets, const uint8_t *guarantees, size_t guarantees_octets,
+                             const uint8_t *limits, size_t limits_octets);
+
+/* ---- REQUESTS ON COMPONENTS: they wait in the dialogue until a message is sent -------------------------------------------------- */
+/*
+ * A dialogue is its local ID: place times 2^24, plus turn. An operation or an error is a whole element, 02 with 1 to 4 octets or 06 with
+ * at least 1; a parameter is any one whole element, or none (TCAP_NONE).
+ */
+
+/* Takes a place for a new dialogue, whose ID the reply gives. Answers 0, 1, 2, 3, 7. */
+struct tcap_reply tcap_open(uint8_t *table, size_t table_octets, uint32_t service);
+
+/* An invoke of class 1 to 4. Answers 0, 1, 2, 3, 5, 8, 9, 10, 11, 12. */
+struct tcap_reply tcap_invoke(uint8_t *table, size_t table_octets, uint32_t service, uint32_t dialogue, int8_t id, uint32_t cls,
+                              const uint8_t *operation, size_t operation_octets, const uint8_t *parameter, size_t parameter_octets);
+
+/* An invoke that answers the partner's invoke `linked`. Answers 0, 1, 2, 3, 5, 8, 9, 10, 11, 12. */
+struct tcap_reply tcap_invoke_linked(uint8_t *table, size_t table_octets, uint32_t service, uint32_t dialogue, int8_t id,
+                                     int8_t linked, uint32_t cls, const uint8_t *operation, size_t operation_octets,
+                                     const uint8_t *parameter, size_t parameter_octets);
+
+/* The last result of the partner's invoke; operation and parameter both or neither. Answers 0, 1, 2, 3, 5, 6, 11, 12. */
+struct tcap_reply tcap_result_last(uint8_t *table, size_t table_octets, uint32_t service, uint32_t dialogue, int8_t id,
+                                   const uint8_t *operation, size_t operation_octets, const uint8_t *parameter,
+                                   size_t parameter_octets);
+
+/* A result after which more follow. Answers 0, 1, 2, 3, 5, 6, 11, 12. */
+struct tcap_reply tcap_result_not_last(uint8_t *table, size_t table_octets, uint32_t service, uint32_t dialogue, int8_t id,
+                                       const uint8_t *operation, size_t operation_octets, const uint8_t *parameter,
+                                       size_t parameter_octets);
+
+/* An error that answers the partner's invoke. Answers 0, 1, 2, 3, 5, 6, 11, 12. */
+struct tcap_reply tcap_error(uint8_t *table, size_t table_octets, uint32_t service, uint32_t dialogue, int8_t id,
+                             const uint8_t *error, size_t error_octets, const uint8_t *parameter, size_t parameter_octets);
+
+/* A user's reject of a component received: one of the problems marked U. Answers 0, 1, 2, 3, 5, 6, 8, 9, 12. */
+struct tcap_reply tcap_reject(uint8_t *table, size_t table_octets, uint32_t service, uint32_t dialogue, int8_t id, uint32_t problem);
+
+/* Gives up an invocation of ours that was sent; its ID may be used again. Answers 0, 1, 2, 3, 5, 9. */
+struct tcap_reply tcap_cancel(uint8_t *table, size_t table_octets, uint32_t service, uint32_t dialogue, int8_t id);
+
+/* ---- REQUESTS ON THE DIALOGUE: they write a message to the message space --------------------------------------------------------- */
+/*
+ * The message takes the waiting components in order, and after them the engine's own waiting rejects if all together have at most 240
+ * octets. `space` has at least TCAP_SPACE_OCTETS; octets after the message keep what they held.
+ */
+
+/* Sends Begin from Open. Answers 0, 1, 2, 3, 5, 6. */
+struct tcap_reply tcap_begin(uint8_t *table, size_t table_octets, uint32_t service, uint32_t dialogue, uint8_t *space, size_t space_octets);
+
+/* Sends Continue, from Received or Active. Answers 0, 1, 2, 3, 5, 6. */
+struct tcap_reply tcap_continue(uint8_t *table, size_t table_octets, uint32_t service, uint32_t dialogue, uint8_t *space,
+                                size_t space_octets);
+
+/* Sends End, from Received or Active; the dialogue is over. Answers 0, 1, 2, 3, 5, 6. */
+struct tcap_reply tcap_end(uint8_t *table, size_t table_octets, uint32_t service, uint32_t dialogue, uint8_t *space, size_t space_octets);
+
+/* Ends the dialogue without a message, in any state. Answers 0, 1, 2, 3, 5. */
+struct tcap_reply tcap_end_prearranged(uint8_t *table, size_t table_octets, uint32_t service, uint32_t dialogue);
+
+/* Ends the dialogue in any state; sends Abort in Received and Active, with the dialogue portion given, a whole 6B element, or with none
+ * (TCAP_NONE). Answers 0, 1, 2, 3, 5, 11, 12. */
+struct tcap_reply tcap_abort(uint8_t *table, size_t table_octets, uint32_t service, uint32_t dialogue, const uint8_t *portion,
+                             size_t portion_octets, uint8_t *space, size_t space_octets);
+
+/* Sends Unidirectional from Open, of invokes of class 4 alone; the dialogue is over. Answers 0, 1, 2, 3, 5, 6. */
+struct tcap_reply tcap_unidirectional(uint8_t *table, size_t table_octets, uint32_t service, uint32_t dialogue, uint8_t *space,
+                                      size_t space_octets);
+
+/* ---- A RECEIVED MESSAGE ---------------------------------------------------------------------------------------------------------- */
+
+/*
+ * Takes a message of 1 to 512 octets for the service. The rows tell what it brought: one dialogue row, then a row for each component.
+ * A fault of the message is answered by an Abort in the message space, to be sent back. Both may be 0: the message was dropped.
+ * Needs TCAP_ROWS_OCTETS of rows and TCAP_SPACE_OCTETS of space. Answers 0, 1, 2, 3, 4.
+ */
+struct tcap_reply tcap_receive(uint8_t *table, size_t table_octets, uint32_t service, const uint8_t *message, size_t message_octets,
+                               uint8_t *rows, size_t rows_octets, uint8_t *space, size_t space_octets);
+
+/* ---- TIMER EVENTS: the clocks are the host's ------------------------------------------------------------------------------------- */
+
+/* An invocation of ours that was sent had no answer in time: one L-CANCEL row, none in class 4. Answers 0, 1, 2, 3, 5, 9. */
+struct tcap_reply tcap_timeout(uint8_t *table, size_t table_octets, uint32_t service, uint32_t dialogue, int8_t id, uint8_t *rows,
+                               size_t rows_octets);
+
+/* The time in which the answer to our invocation may be rejected is over. Answers 0, 1, 2, 3, 5, 9. */
+struct tcap_reply tcap_reject_timeout(uint8_t *table, size_t table_octets, uint32_t service, uint32_t dialogue, int8_t id);
+
+/* A dialogue that was begun had no answer in time: one P-ABORT row without a cause, the dialogue is over. Answers 0, 1, 2, 3, 5, 6. */
+struct tcap_reply tcap_no_reaction(uint8_t *table, size_t table_octets, uint32_t service, uint32_t dialogue, uint8_t *rows,
+                                   size_t rows_octets);
+
+/* ---- THE PARAMETER OF A COMPONENT -------------------------------------------------------------------------------------------------- */
+
+/* A part of a message. */
+struct tcap_span {
+    size_t start;
+    size_t length;
+};
+
+/* Where in the message the parameter stands of the component at start and length, as a row gives them; 0, 0 where there is none or that
+ * run is no sound component. Takes no table. */
+struct tcap_span tcap_parameter(const uint8_t *message, size_t message_octets, size_t start, size_t length);
+
+#ifdef __cplusplus
+}
+#endif
+
+#endif
