@@ -30,11 +30,6 @@ pub record ComponentIn (least lim : ℕ) (c : Component) : Type 0 where
   pub link : c .linked ≤ 256
   pub told : c .problem ≤ 65535
 
--- whether a reading ends
-abbrev pub nested : Reading → Bool
-nested (Ends e) = true
-nested (Fault f) = false
-
 -- an ID lies inside, and is an octet or 256
 pub single-in : (s : List ℕ) (tag e p r : ℕ) → r ≡ single s tag e p → (r ≡ noID → ⊥) → p + 3 ≤ e
 unfolding single

@@ -15,7 +15,8 @@ use Rattle.paper.specs.declared.Component.{Component}
 use Rattle.paper.specs.Elements.{element, frameAt}
 use Rattle.paper.specs.Problems.{senderOf, problem, noProblem}
 use Rattle.paper.specs.Components.{noID, rejectTag, faulty, single, codeEnd, resultBoth, resultPieces, problemAt, invokeProblem, rejectPieces, knownTag, pieces, readProblem, ifNested, framed, tagAt, componentAt}
-use Rattle.components.specs.Bounds.{ComponentIn, nested, component-in}
+use Rattle.elements.specs.Bounds.{nested}
+use Rattle.components.specs.Bounds.{ComponentIn, component-in}
 
 -- a problem, of its tag and code
 pub problem-by : (s : List ℕ) (e p t code sender r : ℕ) → e - p ≡ 3 → t ≡ getD s p 0 → 128 ≤ t → getD s (p + 1) 0 ≡ 1 → code ≡ getD s (p + 2) 0

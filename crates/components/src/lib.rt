@@ -1,16 +1,16 @@
 // One component read at a position of the message (01, "Coding" and, for the faults, the end of "Invocation states").
 // t is its tag, id its invoke ID, x where it stops; e is where its contents, or those of a 30 in it, end.
 ghost use mathlib.Core.Path.{_≡_};
-ghost use Prim.Native.Nat.{_+_, _*_, _-_, _<_, _≤_};
+ghost use Prim.Native.Nat.{ℕ, _+_, _*_, _-_, _<_, _≤_};
 ghost use lib.ListN.{length};
-ghost use Rattle.paper.specs.Elements.{element, frameAt};
+ghost use Rattle.paper.specs.Elements.{element};
 ghost use Rattle.paper.specs.Components.{knownTag, sound, faulty, single, someEnd, codeEnd, oneElement, lastPiece, invokePieces, resultBoth, resultPieces};
 ghost use Rattle.paper.specs.Components.{problemAt, invokeProblem, rejectPieces, nullPieces, piecesAfter, pieces, readProblem, framed, tagAt, componentAt};
-ghost use Rattle.components.specs.Bounds.{ComponentIn, nested};
+ghost use Rattle.elements.specs.Bounds.{nested};
+ghost use Rattle.components.specs.Bounds.{ComponentIn};
 use paper::Component;
 use paper::Frame;
 use paper::Length;
-use paper::Reading;
 
 fn wide(x: u8) -> u32
     ensures { λ r. ⌜ (r ≡ x) × (r < 256) ⌝ }
@@ -333,30 +333,17 @@ fn read_problem(s: &[u8], t: u8, e: usize, b: usize) -> u32
     invoke_problem(s, e, b + 3)
 }
 
-// Whether a component with a frame is well formed. The end of an indefinite one was found by its elements: it is not read again.
-fn is_nested(s: &[u8], lim: usize, at: usize, f: Frame) -> bool
-    requires { ⌜ (lim ≤ length (now s)) × (f ≡ frameAt (now s) 16 lim at) ⌝ }
-    ensures { λ r. ⌜ r ≡ nested (element (now (s .entry)) 16 lim at) ⌝ }
-{
-    if f.to != f.stop {
-        return true;
-    }
-    match elements::element(s, 16, lim, at) {
-        Reading::Ends(_e) => true,
-        Reading::Fault(_f) => false,
-    }
-}
-
 // One that has a frame: "unknown tag 0; bad nesting 2; wrong, missing or extra piece 1. The ID is used if the first piece is 02 01".
-fn framed(s: &[u8], lim: usize, at: usize, t: u8, f: Frame) -> Component
-    requires { ⌜ (lim ≤ length (now s)) × (f ≡ frameAt (now s) 16 lim at) × (f .to ≤ lim) ⌝ }
-    ensures { λ r. ⌜ r ≡ framed (now (s .entry)) lim at t f ⌝ }
+// `sound` is whether the element in the frame is well formed.
+fn framed(s: &[u8], t: u8, f: Frame, sound: bool) -> Component
+    requires { ⌜ f .to ≤ length (now s) ⌝ }
+    ensures { λ r. ⌜ ((lim at : ℕ) → sound ≡ nested (element (now (s .entry)) 16 lim at) → r ≡ framed (now (s .entry)) lim at t f) ⌝ }
 {
     let e = f.to;
     let b = f.from;
     let x = f.stop;
     if known_tag(t) {
-        if is_nested(s, lim, at, f) {
+        if sound {
             return pieces(s, t, x, e, b);
         }
         let id = single(s, 2, e, b);
@@ -385,9 +372,10 @@ pub fn component_at(s: &[u8], lim: usize, at: usize) -> Component
     ensures within { λ r. ⌜ ComponentIn (at + 5) lim r ⌝ }
 {
     let t = tag_at(s, lim, at);
-    let f = elements::frame_at(s, 16, lim, at);
+    let n = elements::nesting_at(s, 16, lim, at);
+    let f = n.frame;
     if f.stop == 0 {
         return faulty(t, 256, 65535, 2, 0);
     }
-    framed(s, lim, at, t, f)
+    framed(s, t, f, n.sound)
 }

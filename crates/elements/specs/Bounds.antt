@@ -36,6 +36,11 @@ abbrev pub ReadingIn : ℕ → ℕ → Reading → Type 0
 ReadingIn at lim (Ends e) = (at + 1 < e) × (e ≤ lim)
 ReadingIn at lim (Fault f) = (at ≤ f) × (f ≤ at + (lim - at - 1))
 
+-- whether a reading ends
+abbrev pub nested : Reading → Bool
+nested (Ends e) = true
+nested (Fault f) = false
+
 -- a frame's places, in order; where there is none, all are 0
 pub record FrameIn (at lim : ℕ) (f : Frame) : Type 0 where
   pub ordered : f .from ≤ f .to
@@ -175,18 +180,3 @@ frame-in s d lim at r e = subst (FrameIn at lim) (sym e) (go (headAt s lim at) r
     go (Whole c) q i = record { ordered = omega arith; inside = omega arith; ends = omega arith; past = λ z. omega arith }
     go (Holds b c) q i = record { ordered = omega arith; inside = omega arith; ends = omega arith; past = λ z. omega arith }
     go (Opens b) q i = to b (element s d lim at) (omega arith) (opens-in s d lim at b (element s d lim at) q refl) (element-in s d lim at (element s d lim at) refl)
-
--- the end of an indefinite one is found as that of a well-formed element
-pub frame-ends : (s : List ℕ) (d lim at : ℕ) (f : Frame) → f ≡ frameAt s d lim at → (f .to ≡ f .stop → ⊥) → Ends (f .stop) ≡ element s d lim at
-unfolding frameAt
-frame-ends s d lim at f q some = go (headAt s lim at) q
-  where
-    to : (b : ℕ) (r : Reading) → f ≡ frameTo b r → Ends (f .stop) ≡ r
-    to b (Fault x) q = absurd (some (ap (λ (f : Frame). f .to) q ∙ sym (ap (λ (f : Frame). f .stop) q)))
-    to b (Ends x) q = ap (λ (f : Frame). Ends (f .stop)) q
-
-    go : (g : Head) → f ≡ frameBy g (λ _. element s d lim at) → Ends (f .stop) ≡ element s d lim at
-    go Bad q = absurd (some (ap (λ (f : Frame). f .to) q ∙ sym (ap (λ (f : Frame). f .stop) q)))
-    go (Whole c) q = absurd (some (ap (λ (f : Frame). f .to) q ∙ sym (ap (λ (f : Frame). f .stop) q)))
-    go (Holds b c) q = absurd (some (ap (λ (f : Frame). f .to) q ∙ sym (ap (λ (f : Frame). f .stop) q)))
-    go (Opens b) q = to b (element s d lim at) q

@@ -1,3 +1,4 @@
 pub mod Bounds
 pub mod Steps
+pub mod Short
 pub mod Carry

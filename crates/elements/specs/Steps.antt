@@ -14,7 +14,8 @@ use Rattle.paper.specs.declared.Reading.{Reading}
 use Rattle.paper.specs.declared.Reading.the-variants.{Ends, Fault}
 use Rattle.paper.specs.declared.Frame.{Frame}
 use Rattle.paper.specs.Elements.{tagMore, tagEnd, lengthAt, constructor, headBy, headAt, ended, endAt, onwards, orNext, contents, byHead, element, frameBy, frameAt}
-use Rattle.elements.specs.Bounds.{HeadIn, ReadingIn, FrameIn, head-in, element-in, frame-in}
+use Rattle.elements.specs.declared.Nesting.{Nesting}
+use Rattle.elements.specs.Bounds.{HeadIn, ReadingIn, FrameIn, nested, head-in, element-in, frame-in}
 
 -- one further octet of a long tag more
 pub tag-on : (s : List ℕ) (lim n at : ℕ) → (n ≡ 0 → ⊥) → ifLt at lim (ifLt (getD s at 0) 128 (at + 1) (tagMore s lim (n - 1) (at + 1))) 0 ≡ tagMore s lim n at
@@ -97,3 +98,11 @@ pub frame-told : (s : List ℕ) (d lim at : ℕ) {r : Frame} (h : Head) → h �
 unfolding frameAt
 frame-told s d lim at {r} h i q =
     let e : r ≡ frameAt s d lim at = q ∙ ap (λ (g : Head). frameBy g (λ _. element s d lim at)) i in (e, frame-in s d lim at r e)
+
+-- frame and reading, from the head and what the element comes to
+pub nesting-told : (s : List ℕ) (d lim at : ℕ) {r : Nesting} (h : Head) (x : Reading) → h ≡ headAt s lim at → x ≡ element s d lim at
+    → r ≡ record { frame = frameBy h (λ _. x); sound = nested x }
+    → (r .frame ≡ frameAt s d lim at) × (FrameIn at lim (r .frame) × (r .sound ≡ nested (element s d lim at)))
+nesting-told s d lim at {r} h x i j q =
+    let w = frame-told s d lim at {r = r .frame} h i (ap (λ (n : Nesting). n .frame) q ∙ ap (λ (x : Reading). frameBy h (λ _. x)) j) in
+    (w .0, (w .1, ap (λ (n : Nesting). n .sound) q ∙ ap nested j))

@@ -1,13 +1,22 @@
 // Elements read (01, "Coding"): tag, length, element and contents, frame. Positions into one slice; lim is where the octets around end.
+ghost use mathlib.Core.Bool.{true, false};
 ghost use mathlib.Core.Path.{_≡_};
-ghost use Prim.Native.Nat.{ℕ, _+_, _*_, _-_, _<_, _≤_};
+ghost use Prim.Native.Nat.{ℕ, _+_, _*_, _-_, _%_, _<_, _≤_};
 ghost use lib.ListN.{length};
 ghost use Rattle.paper.specs.Elements.{tagMore, tagEnd, lengthAt, headAt, ended, contents, element, frameAt};
-ghost use Rattle.elements.specs.Bounds.{Past, LengthIn, HeadIn, ReadingIn, FrameIn};
+ghost use Rattle.paper.specs.declared.Reading.the-variants.{Ends};
+ghost use Rattle.elements.specs.Bounds.{Past, LengthIn, HeadIn, ReadingIn, FrameIn, nested};
+ghost use Rattle.elements.specs.Short.{Short};
 use paper::Frame;
 use paper::Head;
 use paper::Length;
 use paper::Reading;
+
+// A frame, and whether the element in it is well formed.
+pub struct Nesting {
+    pub frame: Frame,
+    pub sound: bool,
+}
 
 const NO_FRAME: Frame = Frame {
     from: 0,
@@ -111,8 +120,8 @@ pub fn length_at(s: &[u8], lim: usize, at: usize) -> Length
     Length::Given(at + 3, n)
 }
 
-// The tag and length of the element at a position.
-pub fn head_at(s: &[u8], lim: usize, at: usize) -> Head
+// The head of an element with any tag and length.
+fn any_head(s: &[u8], lim: usize, at: usize) -> Head
     requires { ⌜ lim ≤ length (now s) ⌝ }
     ensures is { λ r. ⌜ r ≡ headAt (now (s .entry)) lim at ⌝ }
     ensures within { λ r. ⌜ HeadIn at lim r ⌝ }
@@ -140,6 +149,75 @@ pub fn head_at(s: &[u8], lim: usize, at: usize) -> Head
             Head::Whole(b + n)
         }
     }
+}
+
+// Whether a tag and a length are of one octet each, by the first octet of either.
+fn is_short(tag: u8, length: u8) -> bool
+    ensures { λ r. ⌜ (r ≡ true → (tag ≡ 0 → ⊥) × (tag % 32 ≡ 31 → ⊥) × (length < 128)) ⌝ }
+{
+    if tag == 0 {
+        return false;
+    }
+    if tag % 32 == 31 {
+        return false;
+    }
+    length < 128
+}
+
+fn short_head(s: &[u8], lim: usize, at: usize) -> Head
+    requires { ⌜ (lim ≤ length (now s)) × Short (now s) lim at ⌝ }
+    ensures { λ r. ⌜ r ≡ headAt (now (s .entry)) lim at ⌝ }
+{
+    let n = wide(s[at + 1]);
+    if lim - at - 2 < n {
+        return Head::Bad;
+    }
+    let b = at + 2;
+    if s[at] / 32 % 2 == 1 {
+        return Head::Holds(b, b + n);
+    }
+    Head::Whole(b + n)
+}
+
+// The tag and length of the element at a position; most are short.
+pub fn head_at(s: &[u8], lim: usize, at: usize) -> Head
+    requires { ⌜ lim ≤ length (now s) ⌝ }
+    ensures is { λ r. ⌜ r ≡ headAt (now (s .entry)) lim at ⌝ }
+    ensures within { λ r. ⌜ HeadIn at lim r ⌝ }
+{
+    if at >= lim {
+        return Head::Bad;
+    }
+    if lim - at < 2 {
+        return any_head(s, lim, at);
+    }
+    if is_short(s[at], s[at + 1]) {
+        return short_head(s, lim, at);
+    }
+    any_head(s, lim, at)
+}
+
+// Past the primitive at a position; 0 where there is none that is well formed.
+fn primitive_end(s: &[u8], left: usize, lim: usize, at: usize) -> usize
+    requires { ⌜ (at ≤ lim) × (lim ≤ length (now s)) ⌝ }
+    ensures is { λ r. ⌜ (0 < r → Ends r ≡ element (now (s .entry)) left lim at) ⌝ }
+    ensures within { λ r. ⌜ Past (at + 1) lim r ⌝ }
+{
+    if left == 0 {
+        return 0;
+    }
+    if lim - at < 2 {
+        return 0;
+    }
+    if is_short(s[at], s[at + 1]) {
+        return match short_head(s, lim, at) {
+            Head::Bad => 0,
+            Head::Whole(e) => e,
+            Head::Holds(_b, _e) => 0,
+            Head::Opens(_b) => 0,
+        };
+    }
+    0
 }
 
 // Whether contents end at a position: at their limit, or, where the length is indefinite, at 00 00.
@@ -192,12 +270,17 @@ fn contents(s: &[u8], left: usize, indefinite: bool, lim: usize, outer: usize, a
         if p == lim {
             return Reading::Fault(outer);
         }
-        match element(s, left, lim, p) {
-            Reading::Fault(f) => {
-                return Reading::Fault(f);
-            }
-            Reading::Ends(e) => {
-                p = e;
+        let q = primitive_end(s, left, lim, p);
+        if q != 0 {
+            p = q;
+        } else {
+            match element(s, left, lim, p) {
+                Reading::Fault(f) => {
+                    return Reading::Fault(f);
+                }
+                Reading::Ends(e) => {
+                    p = e;
+                }
             }
         }
     }
@@ -228,6 +311,49 @@ pub fn frame_at(s: &[u8], left: usize, lim: usize, at: usize) -> Frame
                 stop: x,
             },
             Reading::Fault(_f) => NO_FRAME,
+        },
+    }
+}
+
+fn sound(from: usize, to: usize, stop: usize) -> Nesting
+    ensures { λ r. ⌜ r ≡ record { frame = record { from = from; to = to; stop = stop }; sound = true } ⌝ }
+{
+    Nesting {
+        frame: Frame { from, to, stop },
+        sound: true,
+    }
+}
+
+fn unsound(frame: Frame) -> Nesting
+    ensures { λ r. ⌜ r ≡ record { frame = frame; sound = false } ⌝ }
+{
+    Nesting {
+        frame,
+        sound: false,
+    }
+}
+
+// Frame and reading of an element in one pass.
+pub fn nesting_at(s: &[u8], left: usize, lim: usize, at: usize) -> Nesting
+    requires { ⌜ (lim ≤ length (now s)) × (0 < left) ⌝ }
+    ensures is { λ r. ⌜ r .frame ≡ frameAt (now (s .entry)) left lim at ⌝ }
+    ensures within { λ r. ⌜ FrameIn at lim (r .frame) ⌝ }
+    ensures sound { λ r. ⌜ r .sound ≡ nested (element (now (s .entry)) left lim at) ⌝ }
+{
+    match head_at(s, lim, at) {
+        Head::Bad => unsound(NO_FRAME),
+        Head::Whole(e) => sound(e, e, e),
+        Head::Holds(b, e) => match contents(s, left - 1, false, e, at, b) {
+            Reading::Ends(_x) => sound(b, e, e),
+            Reading::Fault(_f) => unsound(Frame {
+                from: b,
+                to: e,
+                stop: e,
+            }),
+        },
+        Head::Opens(b) => match contents(s, left - 1, true, lim, at, b) {
+            Reading::Ends(x) => sound(b, x - 2, x),
+            Reading::Fault(_f) => unsound(NO_FRAME),
         },
     }
 }

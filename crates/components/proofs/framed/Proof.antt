@@ -9,14 +9,11 @@ use Rattle.components.proofs.framed.Tie as tie
 known-tag-requires : tie.Need-known-tag-requires
 known-tag-requires c κs = search needs
 
-is-nested-requires : tie.Need-is-nested-requires
-is-nested-requires c κs = search needs
-
 pieces-requires : tie.Need-pieces-requires
 pieces-requires c κs = search needs
 
 returns : tie.Need-returns
-returns c = framed-nested _ _ _ _ _ _ (sym (c .before .before .before .before .known-tag .ensures) ∙ c .before .before .before .if1 .taken) (sym (c .before .before .is-nested .ensures) ∙ c .before .if2 .taken) (c .pieces .ensures)
+returns c = λ lim at i. framed-nested _ _ _ _ _ _ (sym (c .before .before .before .known-tag .ensures) ∙ c .before .before .if1 .taken) (sym i ∙ c .before .if2 .taken) (c .pieces .ensures)
 
 single-requires : tie.Need-single-requires
 single-requires c κs = search needs
@@ -28,7 +25,7 @@ faulty-requires : tie.Need-faulty-requires
 faulty-requires c κs = search needs
 
 returns-2 : tie.Need-returns-2
-returns-2 c = framed-bad _ _ _ _ _ _ (sym (c .before .before .before .before .before .before .known-tag .ensures) ∙ c .before .before .before .before .before .if1 .taken) _ _ (sym (c .before .before .before .before .is-nested .ensures) ∙ c .before .before .before .if2 .left)
+returns-2 c = λ lim at i. framed-bad _ _ _ _ _ _ (sym (c .before .before .before .before .before .known-tag .ensures) ∙ c .before .before .before .before .if1 .taken) _ _ (sym i ∙ c .before .before .before .if2 .left)
     (c .before .before .single .ensures .0) (c .before .read-problem .ensures) (c .faulty .ensures)
 
 single-requires-2 : tie.Need-single-requires-2
@@ -39,14 +36,13 @@ faulty-requires-2 c κs = search needs
 
 returns-3 : tie.Need-returns-3
 unfolding framed
-returns-3 c = no _ _ _ (cc) (cc)
+returns-3 c = λ lim at i. no _ _ _ (cc) (cc)
 
 pub framed-spec : {M : Type 1} → statement M
 framed-spec =
     tie.close
     (tie.spec
     known-tag-requires
-    is-nested-requires
     pieces-requires
     returns
     single-requires

@@ -17,6 +17,7 @@ use Rattle.elements.proofs.element.Kinds as element-kinds
 use Rattle.elements.proofs.+contents+element.Lts-element as element-lts
 use Rattle.elements.proofs.head_at.Reads as head-at-reads
 use Rattle.elements.proofs.is_end.Reads as is-end-reads
+use Rattle.elements.proofs.primitive_end.Reads as primitive-end-reads
 use Rattle.elements.proofs.+contents+element.{statement}
 use Rattle.elements.proofs.+contents+element.Tie.{close}
 
@@ -48,6 +49,8 @@ contents-μ-loop s left indefinite lim outer at p₀ p = lim - p
 contents-loop-holds : (t : ℕ) → contents-lts.Need-loop-holds (
   is-end-reads.Asked,
   is-end-reads.Learnt,
+  primitive-end-reads.Asked,
+  primitive-end-reads.Learnt,
   element-below t,
   element.Post,
 ) (contents-at t) contents.Post contents-Inv-loop contents-μ-loop
@@ -56,22 +59,28 @@ contents-loop-holds t c = (omega arith, omega arith, λ x h. h)
 contents-is-end-requires : (t : ℕ) → contents-lts.Need-is-end-requires (
   is-end-reads.Asked,
   is-end-reads.Learnt,
+  primitive-end-reads.Asked,
+  primitive-end-reads.Learnt,
   element-below t,
   element.Post,
 ) (contents-at t) contents.Post contents-Inv-loop contents-μ-loop
 contents-is-end-requires t c κs = omega arith
 
-contents-add-t12 : (t : ℕ) → contents-lts.Need-add-t12 (
+contents-add-t13 : (t : ℕ) → contents-lts.Need-add-t13 (
   is-end-reads.Asked,
   is-end-reads.Learnt,
+  primitive-end-reads.Asked,
+  primitive-end-reads.Learnt,
   element-below t,
   element.Post,
 ) (contents-at t) contents.Post contents-Inv-loop contents-μ-loop
-contents-add-t12 t c = omega (arith, room _ _ _ _ (c .if2 .taken) (sym (c .before .if1 .taken) ∙ c .before .before .is-end .ensures))
+contents-add-t13 t c = omega (arith, room _ _ _ _ (c .if2 .taken) (sym (c .before .if1 .taken) ∙ c .before .before .is-end .ensures))
 
 contents-returns : (t : ℕ) → contents-lts.Need-returns (
   is-end-reads.Asked,
   is-end-reads.Learnt,
+  primitive-end-reads.Asked,
+  primitive-end-reads.Learnt,
   element-below t,
   element.Post,
 ) (contents-at t) contents.Post contents-Inv-loop contents-μ-loop
@@ -80,6 +89,8 @@ contents-returns t c = c .before .before .before .loop .inv .2 _ (λ n h. at-end
 contents-returns-2 : (t : ℕ) → contents-lts.Need-returns-2 (
   is-end-reads.Asked,
   is-end-reads.Learnt,
+  primitive-end-reads.Asked,
+  primitive-end-reads.Learnt,
   element-below t,
   element.Post,
 ) (contents-at t) contents.Post contents-Inv-loop contents-μ-loop
@@ -88,14 +99,53 @@ contents-returns-2 t c = c .before .before .before .loop .inv .2 _ (λ n h. at-e
 contents-returns-3 : (t : ℕ) → contents-lts.Need-returns-3 (
   is-end-reads.Asked,
   is-end-reads.Learnt,
+  primitive-end-reads.Asked,
+  primitive-end-reads.Learnt,
   element-below t,
   element.Post,
 ) (contents-at t) contents.Post contents-Inv-loop contents-μ-loop
 contents-returns-3 t c = c .before .before .before .loop .inv .2 _ (λ n h. no-more _ _ _ _ _ n _ h (sym (c .before .if1 .left) ∙ c .before .before .is-end .ensures) (c .if3 .taken))
 
+contents-primitive-end-requires : (t : ℕ) → contents-lts.Need-primitive-end-requires (
+  is-end-reads.Asked,
+  is-end-reads.Learnt,
+  primitive-end-reads.Asked,
+  primitive-end-reads.Learnt,
+  element-below t,
+  element.Post,
+) (contents-at t) contents.Post contents-Inv-loop contents-μ-loop
+contents-primitive-end-requires t c κs = omega arith
+
+contents-loop-less : (t : ℕ) → contents-lts.Need-loop-less (
+  is-end-reads.Asked,
+  is-end-reads.Learnt,
+  primitive-end-reads.Asked,
+  primitive-end-reads.Learnt,
+  element-below t,
+  element.Post,
+) (contents-at t) contents.Post contents-Inv-loop contents-μ-loop
+contents-loop-less t c = omega (arith, c .before .primitive-end .ensures .1 (omega arith))
+
+contents-loop-again : (t : ℕ) → contents-lts.Need-loop-again (
+  is-end-reads.Asked,
+  is-end-reads.Learnt,
+  primitive-end-reads.Asked,
+  primitive-end-reads.Learnt,
+  element-below t,
+  element.Post,
+) (contents-at t) contents.Post contents-Inv-loop contents-μ-loop
+contents-loop-again t c = let w = c .before .primitive-end .ensures .1 (omega arith) in (
+  omega arith,
+  omega arith,
+  λ x g. c .before .before .before .before .before .loop .inv .2 x (λ n h.
+      next _ _ _ _ _ n _ h _ x (sym (c .before .before .before .if1 .left) ∙ c .before .before .before .before .is-end .ensures) (c .before .before .if3 .left) (c .before .primitive-end .ensures .0 (omega arith)) (g (n - 1) (omega arith))),
+)
+
 contents-element-requires : (t : ℕ) → contents-lts.Need-element-requires (
   is-end-reads.Asked,
   is-end-reads.Learnt,
+  primitive-end-reads.Asked,
+  primitive-end-reads.Learnt,
   element-below t,
   element.Post,
 ) (contents-at t) contents.Post contents-Inv-loop contents-μ-loop
@@ -104,6 +154,8 @@ contents-element-requires t c κs = omega arith
 contents-enum-known-f : (t : ℕ) → contents-lts.Need-enum-known-f (
   is-end-reads.Asked,
   is-end-reads.Learnt,
+  primitive-end-reads.Asked,
+  primitive-end-reads.Learnt,
   element-below t,
   element.Post,
 ) (contents-at t) contents.Post contents-Inv-loop contents-μ-loop
@@ -112,38 +164,46 @@ contents-enum-known-f t c = search needs
 contents-returns-4 : (t : ℕ) → contents-lts.Need-returns-4 (
   is-end-reads.Asked,
   is-end-reads.Learnt,
+  primitive-end-reads.Asked,
+  primitive-end-reads.Learnt,
   element-below t,
   element.Post,
 ) (contents-at t) contents.Post contents-Inv-loop contents-μ-loop
-contents-returns-4 t c = c .before .before .before .before .before .before .before .loop .inv .2 _ (λ n h. next _ _ _ _ _ n _ h _ _ (sym (c .before .before .before .before .before .if1 .left) ∙ c .before .before .before .before .before .before .is-end .ensures) (c .before .before .before .before .if3 .left) (sym (c .before .f .given .1) ∙ c .before .before .before .element .ensures .0) refl)
+contents-returns-4 t c = c .before .before .before .before .before .before .before .before .before .loop .inv .2 _ (λ n h. next _ _ _ _ _ n _ h _ _ (sym (c .before .before .before .before .before .before .before .if1 .left) ∙ c .before .before .before .before .before .before .before .before .is-end .ensures) (c .before .before .before .before .before .before .if3 .left) (sym (c .before .f .given .1) ∙ c .before .before .before .element .ensures .0) refl)
 
 contents-enum-known-e : (t : ℕ) → contents-lts.Need-enum-known-e (
   is-end-reads.Asked,
   is-end-reads.Learnt,
+  primitive-end-reads.Asked,
+  primitive-end-reads.Learnt,
   element-below t,
   element.Post,
 ) (contents-at t) contents.Post contents-Inv-loop contents-μ-loop
 contents-enum-known-e t c = search needs
 
-contents-loop-less : (t : ℕ) → contents-lts.Need-loop-less (
+contents-loop-less-2 : (t : ℕ) → contents-lts.Need-loop-less-2 (
   is-end-reads.Asked,
   is-end-reads.Learnt,
+  primitive-end-reads.Asked,
+  primitive-end-reads.Learnt,
   element-below t,
   element.Post,
 ) (contents-at t) contents.Post contents-Inv-loop contents-μ-loop
-contents-loop-less t c = omega (arith, subst (ReadingIn _ _) (c .before .e .given .1) (c .before .before .before .element .ensures .1))
+contents-loop-less-2 t c = omega (arith, subst (ReadingIn _ _) (c .before .e .given .1) (c .before .before .before .element .ensures .1))
 
-contents-loop-again : (t : ℕ) → contents-lts.Need-loop-again (
+contents-loop-again-2 : (t : ℕ) → contents-lts.Need-loop-again-2 (
   is-end-reads.Asked,
   is-end-reads.Learnt,
+  primitive-end-reads.Asked,
+  primitive-end-reads.Learnt,
   element-below t,
   element.Post,
 ) (contents-at t) contents.Post contents-Inv-loop contents-μ-loop
-contents-loop-again t c = let w = subst (ReadingIn _ _) (c .before .e .given .1) (c .before .before .before .element .ensures .1) in (
+contents-loop-again-2 t c = let w = subst (ReadingIn _ _) (c .before .e .given .1) (c .before .before .before .element .ensures .1) in (
   omega arith,
   omega arith,
-  λ x g. c .before .before .before .before .before .before .before .loop .inv .2 x (λ n h.
-      next _ _ _ _ _ n _ h _ x (sym (c .before .before .before .before .before .if1 .left) ∙ c .before .before .before .before .before .before .is-end .ensures) (c .before .before .before .before .if3 .left) (sym (c .before .e .given .1) ∙ c .before .before .before .element .ensures .0) (g (n - 1) (omega arith))),
+  λ x g. c .before .before .before .before .before .before .before .before .before .loop .inv .2 x (λ n h.
+      next _ _ _ _ _ n _ h _ x (sym (c .before .before .before .before .before .before .before .if1 .left) ∙ c .before .before .before .before .before .before .before .before .is-end .ensures) (c .before .before .before .before .before .before .if3 .left) (sym (c .before .e .given .1) ∙ c .before .before .before .element .ensures .0) (g (n - 1) (omega arith))),
 )
 
 element-returns : (t : ℕ) → element-lts.Need-returns (
@@ -262,6 +322,8 @@ pub +contents+element-spec : {M : Type 1} → statement M
 +contents+element-spec = close μ-contents μ-element (λ t. contents-lts.spec (
   is-end-reads.Asked,
   is-end-reads.Learnt,
+  primitive-end-reads.Asked,
+  primitive-end-reads.Learnt,
   element-below t,
   element.Post,
 )
@@ -271,16 +333,19 @@ pub +contents+element-spec : {M : Type 1} → statement M
     contents-μ-loop
     (contents-loop-holds t)
     (contents-is-end-requires t)
-    (contents-add-t12 t)
+    (contents-add-t13 t)
     (contents-returns t)
     (contents-returns-2 t)
     (contents-returns-3 t)
+    (contents-primitive-end-requires t)
+    (contents-loop-less t)
+    (contents-loop-again t)
     (contents-element-requires t)
     (contents-enum-known-f t)
     (contents-returns-4 t)
     (contents-enum-known-e t)
-    (contents-loop-less t)
-    (contents-loop-again t))
+    (contents-loop-less-2 t)
+    (contents-loop-again-2 t))
     λ t. element-lts.spec
     (head-at-reads.Asked, head-at-reads.Learnt, contents-below t, contents.Post)
     (element-at t)
