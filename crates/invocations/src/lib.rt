@@ -1,4 +1,5 @@
 // A dialogue's eight invocations: looked up, changed, transmitted (01, "Invocation states").
+ghost use mathlib.Core.Bool.{true};
 ghost use mathlib.Core.Path.{_≡_};
 ghost use Prim.Native.Nat.{ℕ, _+_, _<_, _≤_};
 ghost use mathlib.Core.List.{map};
@@ -16,11 +17,29 @@ fn is_open(id: u32, v: Invocation) -> bool
     (v.id as u32) == id
 }
 
+// Whether none is in use: then there is no ID to look for.
+fn all_idle(l: [Invocation; 8]) -> bool
+    ensures { λ r. ⌜ (r ≡ true → (id : ℕ) → slotOf l id ≡ 8) ⌝ }
+{
+    let mut i: usize = 0;
+    while i < 8 {
+        if is_idle(l[i]) {
+            i += 1;
+        } else {
+            return false;
+        }
+    }
+    true
+}
+
 // The slot of our invocation of that ID, in any state but Idle; else 8.
 pub fn slot_of(l: [Invocation; 8], id: u32) -> usize
     ensures is { λ r. ⌜ r ≡ slotOf l id ⌝ }
     ensures within { λ r. ⌜ r ≤ 8 ⌝ }
 {
+    if all_idle(l) {
+        return 8;
+    }
     let mut i: usize = 0;
     while i < 8 {
         if is_open(id, l[i]) {

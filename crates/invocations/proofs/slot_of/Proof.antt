@@ -10,6 +10,7 @@ use Rattle.invocations.proofs.slot_of.Statement.{statement}
 use Rattle.invocations.proofs.slot_of.Tie as tie
 use Rattle.invocations.proofs.slot_of.Reads as reads
 use Rattle.invocations.proofs.slot_of.Lts as lts
+use Rattle.invocations.proofs.all_idle.Reads as all-idle-reads
 use Rattle.invocations.proofs.is_open.Reads as is-open-reads
 
 abbrev Inv-loop : tie.InvT-loop
@@ -18,52 +19,49 @@ Inv-loop id l i₀ i = (i ≤ 8) × (slotOf l id ≡ i + firstAt (isOpen id) (dr
 abbrev μ-loop : tie.MeasureT-loop
 μ-loop id l i₀ i = 8 - i
 
--- src/lib.rt:27:5
+all-idle-requires : tie.Need-all-idle-requires Inv-loop μ-loop
+all-idle-requires c κs = search needs
+
+returns : tie.Need-returns Inv-loop μ-loop
+returns c = (sym (c .before .all-idle .ensures (c .if1 .taken) _), omega arith)
+
 loop-holds : tie.Need-loop-holds Inv-loop μ-loop
 unfolding slotOf
 loop-holds c = (omega arith, omega arith)
 
--- src/lib.rt:28:24
 mul-is-open : tie.Need-mul-is-open Inv-loop μ-loop
 mul-is-open c = search needs
 
--- src/lib.rt:28:24
 array-copy-out-is-open : tie.Need-array-copy-out-is-open Inv-loop μ-loop
 array-copy-out-is-open c = search needs
 
--- src/lib.rt:28:12
 is-open-requires : tie.Need-is-open-requires Inv-loop μ-loop
 is-open-requires c κs = search needs
 
--- src/lib.rt:29:13
-returns : tie.Need-returns Inv-loop μ-loop
-returns c =
+returns-2 : tie.Need-returns-2 Inv-loop μ-loop
+returns-2 c =
     let b = c .before .before .before .before in
-    let n : length (b .before .args .t1) ≡ 8 = b .before .good .0 .1 .0 .1 in
-    (omega (arith, b .loop .inv .1, first-hit (isOpen (b .before .args .id)) noInvocation (b .before .args .t1) (b .loop .i) (omega arith) (sym (c .before .is-open .ensures) ∙ c .if1 .taken)), omega arith)
+    let n : length (b .before .before .before .args .t1) ≡ 8 = b .before .before .before .good .0 .1 .0 .1 in
+    (omega (arith, b .loop .inv .1, first-hit (isOpen (b .before .before .before .args .id)) noInvocation (b .before .before .before .args .t1) (b .loop .i) (omega arith) (sym (c .before .is-open .ensures) ∙ c .if2 .taken)), omega arith)
 
--- src/lib.rt:31:9
 add-i : tie.Need-add-i Inv-loop μ-loop
 add-i c = search needs
 
--- src/lib.rt:27:5
 loop-less : tie.Need-loop-less Inv-loop μ-loop
 loop-less c = search needs
 
--- src/lib.rt:27:5
 loop-again : tie.Need-loop-again Inv-loop μ-loop
 loop-again c =
     let b = c .before .before .before .before in
-    let n : length (b .before .args .t1) ≡ 8 = b .before .good .0 .1 .0 .1 in
-    let m = first-miss (isOpen (b .before .args .id)) noInvocation (b .before .args .t1) (b .loop .i) (omega arith) (sym (c .before .is-open .ensures) ∙ c .if1 .left) in
-    (omega arith, omega (arith, b .loop .inv .1, m, ap (λ (k : ℕ). firstAt (isOpen (b .before .args .id)) (drop k (b .before .args .t1))) (add-one (b .loop .i))))
+    let n : length (b .before .before .before .args .t1) ≡ 8 = b .before .before .before .good .0 .1 .0 .1 in
+    let m = first-miss (isOpen (b .before .before .before .args .id)) noInvocation (b .before .before .before .args .t1) (b .loop .i) (omega arith) (sym (c .before .is-open .ensures) ∙ c .if2 .left) in
+    (omega arith, omega (arith, b .loop .inv .1, m, ap (λ (k : ℕ). firstAt (isOpen (b .before .before .before .args .id)) (drop k (b .before .before .before .args .t1))) (add-one (b .loop .i))))
 
--- src/lib.rt:22:1
-returns-2 : tie.Need-returns-2 Inv-loop μ-loop
-returns-2 c =
+returns-3 : tie.Need-returns-3 Inv-loop μ-loop
+returns-3 c =
     let b = c .before in
-    let n : length (b .before .args .t1) ≡ 8 = b .before .good .0 .1 .0 .1 in
-    (omega (arith, b .loop .inv .1, first-none (isOpen (b .before .args .id)) noInvocation (b .before .args .t1) (b .loop .i) (omega arith)), omega arith)
+    let n : length (b .before .before .before .args .t1) ≡ 8 = b .before .before .before .good .0 .1 .0 .1 in
+    (omega (arith, b .loop .inv .1, first-none (isOpen (b .before .before .before .args .id)) noInvocation (b .before .before .before .args .t1) (b .loop .i) (omega arith)), omega arith)
 
 pub slot-of-spec : {M : Type 1} → statement M
 slot-of-spec =
@@ -71,12 +69,14 @@ slot-of-spec =
     (tie.spec
     Inv-loop
     μ-loop
+    all-idle-requires
+    returns
     loop-holds
     mul-is-open
     array-copy-out-is-open
     is-open-requires
-    returns
+    returns-2
     add-i
     loop-less
     loop-again
-    returns-2)
+    returns-3)
