@@ -14,12 +14,15 @@ use Rattle.components.specs.Bounds.{ComponentIn}
 use Rattle.paper.specs.declared.Component.{Component}
 use Rattle.paper.specs.declared.Control.{Control}
 use Rattle.paper.specs.declared.Row.{Row}
+use Rattle.paper.specs.declared.Acted.{Acted}
 use Rattle.paper.specs.Components.{Item, item, componentAt, nextStart, items, components, goOn}
 use Rattle.paper.specs.Invocations.{act}
-use Rattle.paper.specs.Rows.{rowBy, rowOctets, allActed, componentRows, rowsOctets}
+use Rattle.paper.specs.Rows.{componentRow, rowBy, rowOctets, allActed, componentRows, rowsOctets}
+use Rattle.acts.specs.declared.Told.{Told}
+use Rattle.acts.specs.Told.{changed, does}
 use Rattle.shows.specs.declared.Stepped.{Stepped}
 use Rattle.shows.specs.declared.Shown.{Shown}
-use Rattle.shows.specs.Shows.{steppedOf, Next, Shows}
+use Rattle.shows.specs.Shows.{Steps, Next, Shows}
 
 -- where the component after the one at a position starts
 abbrev after : List ℕ → ℕ → ℕ → ℕ
@@ -31,6 +34,18 @@ unfolding nextStart
 next-in at lim p next h s e = by-eq _ _ _ _ e
     (λ q d. record { within = omega (arith, s .ends); five = λ g. omega (arith, s .long q) })
     (λ q d. record { within = omega arith; five = λ g. absurd (omega arith) })
+
+-- one step, of what was read and told
+pub step-told : (me room : ℕ) (s : List ℕ) (lim at : ℕ) (c : Control) (p : Component) (t : Told) (w : Row) (x : ℕ)
+    → p ≡ componentAt s lim at → does c (p .id) t ≡ act room c p → w ≡ componentRow me at (t .kind) (t .problem) p → x ≡ nextStart lim p
+    → Steps me room s lim at c (record { told = t; id = p .id; row = w; next = x })
+step-told me room s lim at c p t w x e d f g = record {
+  control = ap (λ (a : Acted). a .control) d ∙ ap (λ (p : Component). act room c p .control) e;
+  row =
+      f ∙ ap (λ (a : Acted). componentRow me at (a .kind) (a .problem) p) d
+      ∙ ap (λ (p : Component). componentRow me at (act room c p .kind) (act room c p .problem) p) e;
+  next = g ∙ ap (nextStart lim) e;
+}
 
 module _ (s : List ℕ) (lim at n : ℕ) where
   pub items-on : (m : ℕ) → m ≡ suc n → after s lim at < lim → items s lim m at ≡ item s lim at ∷ items s lim n (after s lim at)
@@ -100,23 +115,22 @@ module _ (me room : ℕ) (s : List ℕ) (lim from : ℕ) (c₀ : Control) (l₀ 
     same = let e : lim - from + 1 ≡ lim - from + 2 - 1 = omega arith in ap (λ (n : ℕ). answer me room c₀ 1 l₀ (items s lim n from)) e;
   }
 
-  module _ {l : List ℕ} {c : Control} {at k : ℕ} (i : Rest l c at k) (r : Stepped) (e : r ≡ steppedOf me room s lim at c) (l′ : List ℕ) (d : l′ ≡ sets l (k * 32) (rowOctets (r .row))) (g : length l′ ≡ length l) where
+  module _ {l : List ℕ} {c : Control} {at k : ℕ} (i : Rest l c at k) (r : Stepped) (e : Steps me room s lim at c r) (c′ : Control) (a : c′ ≡ changed c (r .id) (r .told)) (l′ : List ℕ) (d : l′ ≡ sets l (k * 32) (rowOctets (r .row))) (g : length l′ ≡ length l) where
     -- what is left after one step, whatever is left
-    stepped : (is : List Item) → answer me room c k l (item s lim at ∷ is) ≡ answer me room (r .control) (k + 1) l′ is
-    unfolding steppedOf
+    stepped : (is : List Item) → answer me room c k l (item s lim at ∷ is) ≡ answer me room c′ (k + 1) l′ is
     stepped is =
-        ap (λ (x : Stepped). answer me room (x .control) (k + 1) (sets l (k * 32) (rowOctets (x .row))) is) (sym e)
-        ∙ ap (λ (x : List ℕ). answer me room (r .control) (k + 1) x is) (sym d)
+        ap (λ (x : Control). answer me room x (k + 1) (sets l (k * 32) (rowOctets (rowBy me room c (item s lim at)))) is) (sym (a ∙ e .control))
+        ∙ ap (λ (x : Row). answer me room c′ (k + 1) (sets l (k * 32) (rowOctets x)) is) (sym (e .row))
+        ∙ ap (λ (x : List ℕ). answer me room c′ (k + 1) x is) (sym d)
 
     next-is : r .next ≡ after s lim at
-    unfolding steppedOf
-    next-is = ap (λ (x : Stepped). x .next) e
+    next-is = e .next
 
     fuel : lim - from + 2 - k ≡ suc (lim - from + 2 - (k + 1))
     fuel = omega (arith, i .five, i .begun, i .within)
 
     -- one component more
-    pub rest-more : Next at lim (r .next) → r .next < lim → Rest l′ (r .control) (r .next) (k + 1)
+    pub rest-more : Next at lim (r .next) → r .next < lim → Rest l′ c′ (r .next) (k + 1)
     rest-more n h = record {
       one = omega arith;
       begun = omega (arith, n .five h, i .begun);
@@ -127,11 +141,11 @@ module _ (me room : ℕ) (s : List ℕ) (lim from : ℕ) (c₀ : Control) (l₀ 
           i .same
           ∙ ap (answer me room c k l) (items-on s lim at _ _ fuel (subst (λ (x : ℕ). x < lim) next-is h))
           ∙ stepped (items s lim (lim - from + 2 - (k + 1)) (after s lim at))
-          ∙ ap (λ (x : ℕ). answer me room (r .control) (k + 1) l′ (items s lim (lim - from + 2 - (k + 1)) x)) (sym next-is);
+          ∙ ap (λ (x : ℕ). answer me room c′ (k + 1) l′ (items s lim (lim - from + 2 - (k + 1)) x)) (sym next-is);
     }
 
     -- the last one
-    pub rest-end : lim ≤ 512 → lim ≤ r .next → Shows me room c₀ l₀ (components s lim from) (record { control = r .control; count = k }) l′
+    pub rest-end : lim ≤ 512 → lim ≤ r .next → Shows me room c₀ l₀ (components s lim from) (record { control = c′; count = k }) l′
     rest-end small h = record {
       control = ap (λ (x : Answer). x .control) (sym all) ∙ answer-control me room c₀ 1 l₀ (components s lim from);
       count = omega (arith, ap (λ (x : Answer). x .count) all, answer-count me room c₀ 1 l₀ (components s lim from));
@@ -140,7 +154,7 @@ module _ (me room : ℕ) (s : List ℕ) (lim from : ℕ) (c₀ : Control) (l₀ 
       long = g ∙ i .long;
     }
       where
-        all : answer me room c₀ 1 l₀ (components s lim from) ≡ record { control = r .control; count = k + 1; space = l′ }
+        all : answer me room c₀ 1 l₀ (components s lim from) ≡ record { control = c′; count = k + 1; space = l′ }
         all =
             i .same
             ∙ ap (answer me room c k l) (items-last s lim at _ _ fuel (subst (λ (x : ℕ). lim ≤ x) next-is h))

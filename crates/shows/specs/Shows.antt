@@ -5,20 +5,18 @@ use Prim.Native.Nat.{ℕ, _+_, _<_, _≤_}
 use lib.ListN.{length}
 use lib.Seq.{sets}
 use Rattle.paper.specs.declared.Control.{Control}
-use Rattle.paper.specs.declared.Row.{Row}
 use Rattle.paper.specs.Components.{Item, item, componentAt, nextStart}
 use Rattle.paper.specs.Invocations.{act}
 use Rattle.paper.specs.Rows.{rowBy, allActed, componentRows, rowsOctets}
+use Rattle.acts.specs.Told.{changed}
 use Rattle.shows.specs.declared.Stepped.{Stepped}
 use Rattle.shows.specs.declared.Shown.{Shown}
 
 -- one component at a position
-unfoldable pub steppedOf : ℕ → ℕ → List ℕ → ℕ → ℕ → Control → Stepped
-steppedOf me room s lim at c = record {
-  control = act room c (componentAt s lim at) .control;
-  row = rowBy me room c (item s lim at);
-  next = nextStart lim (componentAt s lim at);
-}
+pub record Steps (me room : ℕ) (s : List ℕ) (lim at : ℕ) (c : Control) (r : Stepped) : Type 0 where
+  pub control : changed c (r .id) (r .told) ≡ act room c (componentAt s lim at) .control
+  pub row : r .row ≡ rowBy me room c (item s lim at)
+  pub next : r .next ≡ nextStart lim (componentAt s lim at)
 
 -- the next position: a sound component has at least five octets
 pub record Next (at lim next : ℕ) : Type 0 where

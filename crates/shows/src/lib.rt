@@ -3,14 +3,18 @@ ghost use mathlib.Core.Path.{_≡_};
 ghost use Prim.Native.Nat.{ℕ, _+_, _*_, _-_, _<_, _≤_};
 ghost use lib.ListN.{length};
 ghost use Rattle.paper.specs.Components.{components, nextStart};
-ghost use Rattle.shows.specs.Shows.{steppedOf, Next, Shows};
+ghost use Rattle.paper.specs.declared.Control.{Control};
+ghost use Rattle.shows.specs.Shows.{Steps, Next, Shows};
+use acts::Told;
 use paper::Component;
 use paper::Control;
+use paper::Invocation;
 use paper::Row;
 
-// One component: the control record after it, its row, and where the next one starts.
+// One component: what is told of it, its ID and its row, and where the next one starts.
 pub struct Stepped {
-    pub control: Control,
+    pub told: Told,
+    pub id: u32,
     pub row: Row,
     pub next: usize,
 }
@@ -31,17 +35,31 @@ fn next_start(c: Component, lim: usize) -> usize
     lim
 }
 
-fn step(s: &[u8], lim: usize, at: usize, c: Control, room: u8, me: u32) -> Stepped
-    requires { ⌜ (at ≤ lim) × (lim ≤ length (now s)) × (lim ≤ 512) × (room ≤ 8) ⌝ }
-    ensures is { λ r. ⌜ r ≡ steppedOf me room (now (s .entry)) lim at c ⌝ }
+// One component, on a dialogue with these invocations and so many waiting rejects.
+fn step(
+    s: &[u8],
+    lim: usize,
+    at: usize,
+    l: [Invocation; 8],
+    count: u8,
+    room: u8,
+    me: u32,
+) -> Stepped
+    requires { ⌜ (at ≤ lim) × (lim ≤ length (now s)) × (lim ≤ 512) ⌝ }
+    ensures is { λ r. ⌜ ((c : Control) → l ≡ c .invocations → count ≡ c .count → Steps me room (now (s .entry)) lim at c r) ⌝ }
     ensures within { λ r. ⌜ Next at lim (r .next) ⌝ }
+    ensures waits { λ r. ⌜ (r .told .kind ≡ 13 → count < room) ⌝ }
 {
     let p = components::component_at(s, lim, at);
-    let a = acts::act(c, p, room);
-    let row = rows::component_row(p, me, at, a.kind, a.problem);
+    let told = acts::act(l, count, p, room);
+    let row = rows::component_row(p, me, at, told.kind, told.problem);
     let next = next_start(p, lim);
-    let control = a.control;
-    Stepped { control, row, next }
+    Stepped {
+        told,
+        id: p.id,
+        row,
+        next,
+    }
 }
 
 // Row 0 is the dialogue's; room: how many rejects may wait (8, or 0 where none is stored).
@@ -61,17 +79,22 @@ pub fn show(
     let mut at = from;
     let mut k: usize = 1;
     loop {
-        let p = step(s, lim, at, c, room, me);
+        let l = c.invocations;
+        let p = step(s, lim, at, l, c.count, room, me);
         let row = p.row;
+        let told = p.told;
         rows::write_row(rows, k, row);
-        c = p.control;
         at = p.next;
         if at >= lim {
+            let last = acts::changed(c, p.id, told);
             return Shown {
-                control: c,
+                control: last,
                 count: k,
             };
         }
         k += 1;
+        if acts::is_change(told) {
+            c = acts::changed(c, p.id, told);
+        }
     }
 }

@@ -1,6 +1,9 @@
 use native.Mathlib.Omega.{arith}
+use mathlib.Core.Bool.{true, false}
 use mathlib.Core.Path.{_≡_, refl, sym, ap, _∙_}
-use Rattle.laws.specs.If.{lt, ge, eq, ne, yes, no}
+use Prim.Native.Nat.{ℕ}
+use Rattle.laws.specs.If.{lt, ge, eq, ne, yes, no, true-false}
+use Rattle.acts.specs.Told.{storedKind}
 use Rattle.paper.specs.Invocations.{act}
 use borrow.Author.Needs.{needs}
 use Rattle.acts.proofs.act.Statement.{statement}
@@ -11,47 +14,47 @@ use Rattle.acts.proofs.answer.Reads as answer-reads
 use Rattle.acts.proofs.fault.Reads as fault-reads
 use Rattle.acts.proofs.invoke.Reads as invoke-reads
 use Rattle.acts.proofs.reject.Reads as reject-reads
+use Rattle.acts.proofs.stored_kind.Reads as stored-kind-reads
 
--- src/lib.rt:419:9
+stored-kind-requires : tie.Need-stored-kind-requires
+stored-kind-requires c κs = search needs
+
 fault-requires : tie.Need-fault-requires
 fault-requires c κs = search needs
 
--- src/lib.rt:419:9
 returns : tie.Need-returns
 unfolding act
-returns c = ne _ _ _ _ (λ h. omega arith) (c .fault .ensures)
+returns c = let k = c .before .before .before .stored-kind .ensures in
+    (λ d e n. c .fault .ensures .0 _ d e (k .0 ∙ ap (storedKind _) n) ∙ ne _ _ _ _ (λ h. omega arith) refl, λ h. k .1 (c .fault .ensures .1 h))
 
--- src/lib.rt:422:9
 invoke-requires : tie.Need-invoke-requires
 invoke-requires c κs = search needs
 
--- src/lib.rt:422:9
 returns-2 : tie.Need-returns-2
 unfolding act
-returns-2 c = eq _ _ _ _ (omega arith) (eq _ _ _ _ (omega arith) (c .invoke .ensures))
+returns-2 c = let k = c .before .before .before .before .before .stored-kind .ensures in
+    (λ d e n. c .invoke .ensures .0 _ _ d e (k .0 ∙ ap (storedKind _) n) ∙ eq _ _ _ _ (omega arith) (eq _ _ _ _ (omega arith) refl), λ h. k .1 (c .invoke .ensures .1 h))
 
--- src/lib.rt:425:9
 reject-requires : tie.Need-reject-requires
 reject-requires c κs = search needs
 
--- src/lib.rt:425:9
 returns-3 : tie.Need-returns-3
 unfolding act
-returns-3 c = eq _ _ _ _ (omega arith) (ne _ _ _ _ (λ h. omega arith) (eq _ _ _ _ (omega arith) (c .reject .ensures)))
+returns-3 c = (λ d e n. c .reject .ensures .0 d e ∙ eq _ _ _ _ (omega arith) (ne _ _ _ _ (λ h. omega arith) (eq _ _ _ _ (omega arith) refl)), λ h. absurd (omega arith))
 
--- src/lib.rt:427:5
 answer-requires : tie.Need-answer-requires
 answer-requires c κs = search needs
 
--- src/lib.rt:414:1
 returns-4 : tie.Need-returns-4
 unfolding act
-returns-4 c = eq _ _ _ _ (omega arith) (ne _ _ _ _ (λ h. omega arith) (ne _ _ _ _ (λ h. omega arith) (c .answer .ensures)))
+returns-4 c = let k = c .before .before .before .before .before .before .before .stored-kind .ensures in
+    (λ d e n. c .answer .ensures .0 _ d e (k .0 ∙ ap (storedKind _) n) ∙ eq _ _ _ _ (omega arith) (ne _ _ _ _ (λ h. omega arith) (ne _ _ _ _ (λ h. omega arith) refl)), λ h. k .1 (c .answer .ensures .1 h))
 
 pub act-spec : {M : Type 1} → statement M
 act-spec =
     tie.close
     (tie.spec
+    stored-kind-requires
     fault-requires
     returns
     invoke-requires

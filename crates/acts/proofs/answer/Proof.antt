@@ -1,7 +1,10 @@
 use native.Mathlib.Omega.{arith}
+use mathlib.Core.Bool.{true, false}
 use mathlib.Core.Path.{_≡_, refl, sym, ap, _∙_}
-use Rattle.laws.specs.If.{lt, ge, eq, ne, yes, no}
-use Rattle.paper.specs.Invocations.{answers, invocationOf, stateOf}
+use Prim.Native.Nat.{ℕ}
+use Rattle.laws.specs.If.{lt, ge, eq, ne, yes, no, true-false}
+use Rattle.acts.specs.Told.{state-is, stays-stored}
+use Rattle.paper.specs.Invocations.{answers, rejected}
 use borrow.Author.Needs.{needs}
 use Rattle.acts.proofs.answer.Statement.{statement}
 use Rattle.acts.proofs.answer.Tie as tie
@@ -9,42 +12,37 @@ use Rattle.acts.proofs.answer.Reads as reads
 use Rattle.acts.proofs.answer.Lts as lts
 use Rattle.acts.proofs.answer_problem.Reads as answer-problem-reads
 use Rattle.acts.proofs.answer_sent.Reads as answer-sent-reads
-use Rattle.acts.proofs.reject_by.Reads as reject-by-reads
+use Rattle.acts.proofs.stays.Reads as stays-reads
 use Rattle.invocations.proofs.slot_of.Reads as slot-of-reads
 use Rattle.invocations.proofs.state_at.Reads as state-at-reads
 
--- src/lib.rt:286:9
 slot-of-requires : tie.Need-slot-of-requires
 slot-of-requires c κs = search needs
 
--- src/lib.rt:287:9
 state-at-requires : tie.Need-state-at-requires
 state-at-requires c κs = search needs
 
--- src/lib.rt:289:9
 answer-sent-requires : tie.Need-answer-sent-requires
-answer-sent-requires c κs = (c .before .state-at .ensures .1 (omega arith), c .before .before .slot-of .ensures .0, omega arith)
+answer-sent-requires c κs = c .before .state-at .ensures .1 (omega arith)
 
--- src/lib.rt:289:9
 returns : tie.Need-returns
-unfolding answers invocationOf
-returns c = eq _ _ _ _ (cc) (c .answer-sent .ensures)
+unfolding answers
+returns c = let b = c .before .before in
+    (λ room d e q. c .answer-sent .ensures .0 room _ d e (b .before .slot-of .ensures .0) q ∙ eq _ _ _ _ (state-is d _ _ _ e (b .before .slot-of .ensures .0) _ (b .state-at .ensures .0) ∙ c .before .if1 .taken) refl, c .answer-sent .ensures .1)
 
--- src/lib.rt:291:9
 answer-problem-requires : tie.Need-answer-problem-requires
 answer-problem-requires c κs = search needs
 
--- src/lib.rt:292:5
-reject-by-requires : tie.Need-reject-by-requires
-reject-by-requires c κs = search needs
+stays-requires : tie.Need-stays-requires
+stays-requires c κs = search needs
 
--- src/lib.rt:281:1
 returns-2 : tie.Need-returns-2
-unfolding answers invocationOf
-returns-2 c =
-    let b = c .before .before .before in
-    let e : b .state-at .result ≡ stateOf (b .before .before .before .args .c) (b .before .before .before .args .id) = cc in
-    ne _ _ _ _ (λ h. omega (arith, e)) (cc)
+unfolding answers
+returns-2 c = let b = c .before .before .before in (
+  λ room d e q. stays-stored d _ _ _ _ (c .stays .ensures .0) room q ∙ ap (rejected room d _) (c .before .answer-problem .ensures)
+      ∙ ne _ _ _ _ (λ h. c .before .before .if1 .left (sym (state-is d _ _ _ e (b .before .slot-of .ensures .0) _ (b .state-at .ensures .0)) ∙ h)) refl,
+  λ h. omega arith,
+)
 
 pub answer-spec : {M : Type 1} → statement M
 answer-spec =
@@ -55,5 +53,5 @@ answer-spec =
     answer-sent-requires
     returns
     answer-problem-requires
-    reject-by-requires
+    stays-requires
     returns-2)

@@ -1,66 +1,66 @@
 use native.Mathlib.Omega.{arith}
+use mathlib.Core.Bool.{true, false}
 use mathlib.Core.Path.{_≡_, refl, sym, ap, _∙_}
-use Rattle.laws.specs.If.{lt, ge, eq, ne, yes, no}
-use Rattle.paper.specs.Invocations.{faults}
+use Prim.Native.Nat.{ℕ}
+use Rattle.laws.specs.If.{lt, ge, eq, ne, yes, no, true-false}
+use Rattle.acts.specs.Told.{told-as, told-stored, stays-shown, stays-stored}
+use Rattle.paper.specs.Invocations.{faults, faultyReject, released, rejected}
 use borrow.Author.Needs.{needs}
 use Rattle.acts.proofs.fault.Statement.{statement}
 use Rattle.acts.proofs.fault.Tie as tie
 use Rattle.acts.proofs.fault.Reads as reads
 use Rattle.acts.proofs.fault.Lts as lts
-use Rattle.acts.proofs.faulty_reject.Reads as faulty-reject-reads
 use Rattle.acts.proofs.is_answer.Reads as is-answer-reads
-use Rattle.acts.proofs.reject_by.Reads as reject-by-reads
 use Rattle.acts.proofs.release.Reads as release-reads
+use Rattle.acts.proofs.stays.Reads as stays-reads
 
--- src/lib.rt:402:16
 cast-code : tie.Need-cast-code
 cast-code c = search needs
 
--- src/lib.rt:404:9
-faulty-reject-requires : tie.Need-faulty-reject-requires
-faulty-reject-requires c κs = search needs
+stays-requires : tie.Need-stays-requires
+stays-requires c κs = search needs
 
--- src/lib.rt:404:9
 returns : tie.Need-returns
-unfolding faults
-returns c = eq _ _ _ _ (omega arith) (cc)
+unfolding faults faultyReject
+returns c = (λ room d e q. stays-shown d _ _ _ _ (c .stays .ensures .0) (λ h. omega arith) ∙ eq _ _ _ _ (omega arith) (eq _ _ _ _ (omega arith) refl), λ h. absurd (omega arith))
 
--- src/lib.rt:406:8
-is-answer-requires : tie.Need-is-answer-requires
-is-answer-requires c κs = search needs
-
--- src/lib.rt:407:13
 release-requires : tie.Need-release-requires
 release-requires c κs = search needs
 
--- src/lib.rt:408:9
-reject-by-requires : tie.Need-reject-by-requires
-reject-by-requires c κs = search needs
-
--- src/lib.rt:408:9
 returns-2 : tie.Need-returns-2
-unfolding faults
-returns-2 c = ne _ _ _ _ (λ h. omega arith) (yes _ _ _ (cc) (cc))
+unfolding faults faultyReject
+returns-2 c = let r = c .release .ensures in
+    (λ room d e q. told-as d _ _ _ (r .0 d e) _ _ (r .1 .0) (r .1 .1) (λ h. omega arith) ∙ eq _ _ _ _ (omega arith) (ne _ _ _ _ (λ h. omega arith) refl), λ h. absurd (omega arith))
 
--- src/lib.rt:410:5
-reject-by-requires-2 : tie.Need-reject-by-requires-2
-reject-by-requires-2 c κs = search needs
+is-answer-requires : tie.Need-is-answer-requires
+is-answer-requires c κs = search needs
 
--- src/lib.rt:398:1
+release-requires-2 : tie.Need-release-requires-2
+release-requires-2 c κs = search needs
+
 returns-3 : tie.Need-returns-3
 unfolding faults
-returns-3 c = ne _ _ _ _ (λ h. omega arith) (no _ _ _ (cc) (cc))
+returns-3 c = let r = c .release2 .ensures in
+    (λ room d e q. told-stored d _ _ _ (r .0 d e) room (r .1 .0 ∙ q) ∙ ap (rejected room (released d _) _) (r .1 .1) ∙ ne _ _ _ _ (λ h. omega arith) (yes _ _ _ (sym (c .before .before .is-answer .ensures) ∙ c .before .if3 .taken) refl), λ h. omega arith)
+
+stays-requires-2 : tie.Need-stays-requires-2
+stays-requires-2 c κs = search needs
+
+returns-4 : tie.Need-returns-4
+unfolding faults
+returns-4 c = (λ room d e q. stays-stored d _ _ _ _ (c .stays2 .ensures .0) room q ∙ ne _ _ _ _ (λ h. omega arith) (no _ _ _ (sym (c .before .before .is-answer .ensures) ∙ c .before .if3 .left) refl), λ h. omega arith)
 
 pub fault-spec : {M : Type 1} → statement M
 fault-spec =
     tie.close
     (tie.spec
     cast-code
-    faulty-reject-requires
+    stays-requires
     returns
-    is-answer-requires
     release-requires
-    reject-by-requires
     returns-2
-    reject-by-requires-2
-    returns-3)
+    is-answer-requires
+    release-requires-2
+    returns-3
+    stays-requires-2
+    returns-4)

@@ -1,7 +1,10 @@
 use native.Mathlib.Omega.{arith}
+use mathlib.Core.Bool.{true, false}
 use mathlib.Core.Path.{_≡_, refl, sym, ap, _∙_}
-use Rattle.laws.specs.If.{lt, ge, eq, ne, yes, no}
-use Rattle.paper.specs.Invocations.{rejects}
+use Prim.Native.Nat.{ℕ}
+use Rattle.laws.specs.If.{lt, ge, eq, ne, yes, no, true-false}
+use Rattle.acts.specs.Told.{told-as, stays-shown}
+use Rattle.paper.specs.Invocations.{rejects, acted}
 use borrow.Author.Needs.{needs}
 use Rattle.acts.proofs.reject.Statement.{statement}
 use Rattle.acts.proofs.reject.Tie as tie
@@ -9,24 +12,28 @@ use Rattle.acts.proofs.reject.Reads as reads
 use Rattle.acts.proofs.reject.Lts as lts
 use Rattle.acts.proofs.reject_kind.Reads as reject-kind-reads
 use Rattle.acts.proofs.release.Reads as release-reads
+use Rattle.acts.proofs.stays.Reads as stays-reads
 
--- src/lib.rt:350:9
 reject-kind-requires : tie.Need-reject-kind-requires
 reject-kind-requires c κs = search needs
 
--- src/lib.rt:352:13
 release-requires : tie.Need-release-requires
 release-requires c κs = search needs
 
--- src/lib.rt:353:9
 returns : tie.Need-returns
 unfolding rejects
-returns c = lt _ _ _ _ (omega arith) (cc)
+returns c = let r = c .release .ensures in
+    let k = c .before .before .reject-kind .ensures in
+    (λ d e. told-as d _ _ _ (r .0 d e) _ _ (r .1 .0 ∙ k .0) (r .1 .1) (λ h. omega arith) ∙ lt _ _ _ _ (omega arith) refl, omega arith)
 
--- src/lib.rt:346:1
+stays-requires : tie.Need-stays-requires
+stays-requires c κs = search needs
+
 returns-2 : tie.Need-returns-2
 unfolding rejects
-returns-2 c = ge _ _ _ _ (omega arith) (cc)
+returns-2 c = let k = c .before .before .reject-kind .ensures in
+    (λ d e. stays-shown d _ _ _ _ (c .stays .ensures .0) (λ h. omega arith) ∙ ap (λ (k : ℕ). acted d k (c .before .before .before .args .problem)) (k .0) ∙ ge _ _ _ _ (omega arith) refl, omega arith)
 
 pub reject-spec : {M : Type 1} → statement M
-reject-spec = tie.close (tie.spec reject-kind-requires release-requires returns returns-2)
+reject-spec =
+    tie.close (tie.spec reject-kind-requires release-requires returns stays-requires returns-2)

@@ -1,6 +1,8 @@
 use native.Mathlib.Omega.{arith}
+use mathlib.Core.Bool.{true, false}
 use mathlib.Core.Path.{_≡_, refl, sym, ap, _∙_}
-use Rattle.laws.specs.If.{lt, ge, eq, ne, yes, no}
+use Prim.Native.Nat.{ℕ}
+use Rattle.laws.specs.If.{lt, ge, eq, ne, yes, no, true-false}
 use Rattle.paper.specs.Invocations.{rejectKind}
 use borrow.Author.Needs.{needs}
 use Rattle.acts.proofs.reject_kind.Statement.{statement}
@@ -9,19 +11,16 @@ use Rattle.acts.proofs.reject_kind.Reads as reads
 use Rattle.acts.proofs.reject_kind.Lts as lts
 use Rattle.problems.proofs.sender.Reads as sender-reads
 
--- src/lib.rt:191:9
 sender-requires : tie.Need-sender-requires
 sender-requires c κs = search needs
 
--- src/lib.rt:193:9
 returns : tie.Need-returns
 unfolding rejectKind
-returns c = eq _ _ _ _ (omega arith) refl
+returns c = (eq _ _ _ _ (omega arith) refl, omega arith)
 
--- src/lib.rt:188:1
 returns-2 : tie.Need-returns-2
 unfolding rejectKind
-returns-2 c = ne _ _ _ _ (λ h. omega arith) refl
+returns-2 c = (ne _ _ _ _ (λ h. omega arith) refl, omega arith)
 
 pub reject-kind-spec : {M : Type 1} → statement M
 reject-kind-spec = tie.close (tie.spec sender-requires returns returns-2)

@@ -48,10 +48,15 @@ loop-less c = search needs
 loop-again : tie.Need-loop-again Inv-loop μ-loop
 loop-again c =
     let b = c .before .before .before .before in
-    let n : length (b .before .args .t1) ≡ 8 = b .before .good .0 .1 .0 .1 in
-    (omega arith, λ id. omega (arith, b .loop .inv .1 id,
-    first-miss (isOpen id) noInvocation (b .before .args .t1) (b .loop .i) (omega arith) (idle-shut id _ (sym (c .before .is-idle .ensures) ∙ c .if1 .taken)),
-    ap (λ (k : ℕ). firstAt (isOpen id) (drop k (b .before .args .t1))) (add-one (b .loop .i))))
+    let n : length (b .before .args .t1) ≡ 8 = b .before .good .0 .1 .0 .1 in (
+      omega arith,
+      λ id. omega (
+        arith,
+        b .loop .inv .1 id,
+        first-miss (isOpen id) noInvocation (b .before .args .t1) (b .loop .i) (omega arith) (idle-shut id _ (sym (c .before .is-idle .ensures) ∙ c .if1 .taken)),
+        ap (λ (k : ℕ). firstAt (isOpen id) (drop k (b .before .args .t1))) (add-one (b .loop .i)),
+      ),
+    )
 
 returns : tie.Need-returns Inv-loop μ-loop
 returns c = λ h. absurd (true-false (sym h))

@@ -1,0 +1,20 @@
+use native.Mathlib.Omega.{arith}
+use mathlib.Core.Bool.{true, false}
+use mathlib.Core.Path.{_≡_, refl, sym, ap, _∙_}
+use Prim.Native.Nat.{ℕ}
+use Rattle.laws.specs.If.{lt, ge, eq, ne, yes, no, true-false}
+use Rattle.acts.specs.Told.{told-nothing}
+use borrow.Author.Tests.{ltb-false}
+use Rattle.acts.proofs.is_change.Statement.{statement}
+use Rattle.acts.proofs.is_change.Tie as tie
+use Rattle.acts.proofs.is_change.Reads as reads
+use Rattle.acts.proofs.is_change.Lts as lts
+
+returns : tie.Need-returns
+returns c = λ h. absurd (true-false h)
+
+returns-2 : tie.Need-returns-2
+returns-2 c = λ h d id. told-nothing d id _ (c .before .if1 .left) (ltb-false _ _ h)
+
+pub is-change-spec : {M : Type 1} → statement M
+is-change-spec = tie.close (tie.spec returns returns-2)

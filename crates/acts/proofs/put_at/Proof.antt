@@ -1,0 +1,27 @@
+use native.Mathlib.Omega.{arith}
+use mathlib.Core.Bool.{true, false}
+use mathlib.Core.Path.{_≡_, refl, sym, ap, _∙_}
+use Prim.Native.Nat.{ℕ}
+use Rattle.paper.specs.declared.Control.{Control}
+use Rattle.laws.specs.If.{lt, ge, eq, ne, yes, no, true-false}
+use Rattle.acts.specs.Told.{putAt}
+use borrow.Author.Needs.{needs}
+use Rattle.acts.proofs.put_at.Statement.{statement}
+use Rattle.acts.proofs.put_at.Tie as tie
+use Rattle.acts.proofs.put_at.Reads as reads
+use Rattle.acts.proofs.put_at.Lts as lts
+use Rattle.invocations.proofs.put_invocation.Reads as put-invocation-reads
+
+put-invocation-requires : tie.Need-put-invocation-requires
+put-invocation-requires c κs = search needs
+
+returns : tie.Need-returns
+unfolding putAt
+returns c = (lt _ _ _ _ (omega arith) (c .put-invocation .ensures), ap (λ (d : Control). d .count) (c .put-invocation .ensures))
+
+returns-2 : tie.Need-returns-2
+unfolding putAt
+returns-2 c = (ge _ _ _ _ (omega arith) refl, refl)
+
+pub put-at-spec : {M : Type 1} → statement M
+put-at-spec = tie.close (tie.spec put-invocation-requires returns returns-2)

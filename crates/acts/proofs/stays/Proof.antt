@@ -1,0 +1,21 @@
+use native.Mathlib.Omega.{arith}
+use mathlib.Core.Bool.{true, false}
+use mathlib.Core.Path.{_≡_, refl, sym, ap, _∙_}
+use Prim.Native.Nat.{ℕ}
+use Rattle.paper.specs.declared.Invocation.{Invocation}
+use Rattle.laws.specs.If.{lt, ge, eq, ne, yes, no, true-false}
+use borrow.Author.Needs.{needs}
+use Rattle.acts.proofs.stays.Statement.{statement}
+use Rattle.acts.proofs.stays.Tie as tie
+use Rattle.acts.proofs.stays.Reads as reads
+use Rattle.acts.proofs.stays.Lts as lts
+use Rattle.invocations.proofs.no_invocation.Reads as no-invocation-reads
+
+no-invocation-requires : tie.Need-no-invocation-requires
+no-invocation-requires c κs = search needs
+
+returns : tie.Need-returns
+returns c = (ap (λ (x : Invocation). record { kind = c .before .args .kind; problem = c .before .args .problem; slot = 8; put = x }) (c .no-invocation .ensures), refl)
+
+pub stays-spec : {M : Type 1} → statement M
+stays-spec = tie.close (tie.spec no-invocation-requires returns)

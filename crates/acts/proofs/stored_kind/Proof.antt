@@ -1,0 +1,21 @@
+use native.Mathlib.Omega.{arith}
+use mathlib.Core.Bool.{true, false}
+use mathlib.Core.Path.{_≡_, refl, sym, ap, _∙_}
+use Prim.Native.Nat.{ℕ}
+use Rattle.laws.specs.If.{lt, ge, eq, ne, yes, no, true-false}
+use Rattle.acts.specs.Told.{storedKind}
+use Rattle.acts.proofs.stored_kind.Statement.{statement}
+use Rattle.acts.proofs.stored_kind.Tie as tie
+use Rattle.acts.proofs.stored_kind.Reads as reads
+use Rattle.acts.proofs.stored_kind.Lts as lts
+
+returns : tie.Need-returns
+unfolding storedKind
+returns c = (lt _ _ _ _ (omega arith) refl, λ h. omega arith)
+
+returns-2 : tie.Need-returns-2
+unfolding storedKind
+returns-2 c = (ge _ _ _ _ (omega arith) refl, λ h. omega arith)
+
+pub stored-kind-spec : {M : Type 1} → statement M
+stored-kind-spec = tie.close (tie.spec returns returns-2)
