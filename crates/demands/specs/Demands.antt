@@ -8,11 +8,11 @@ use mathlib.Core.List.{List, [], _∷_}
 use mathlib.Core.Logic.{_⊎_, inl, inr, _↔_}
 use Prim.Native.Nat.{ℕ, zero, suc, _+_, _-_, _≤_, _<_}
 use native.Mathlib.Omega.{arith}
-use lib.ListN.{length, getD}
+use lib.ListN.{length, getD, take}
 use Rattle.laws.specs.If.{ifLt, ifEq, ifB, lt, eq, ge, yes, no, by-eq}
-use Rattle.paper.specs.Sizes.{placesInAll, services}
+use Rattle.paper.specs.Sizes.{placesInAll, services, placeOf}
 use Rattle.paper.specs.Shares.{gives, others, free, sharesFit}
-use Rattle.paper.specs.Calls.{Table, Call, Out, guaranteeOf, limitOf, held, mayBegin, opened, openedAt, lowestFree, refuse, shows, octetsAt, beginAt, step, freshTable}
+use Rattle.paper.specs.Calls.{Table, Call, Out, placeAt, guaranteeOf, limitOf, held, mayBegin, opened, openedAt, lowestFree, refuse, shows, octetsAt, beginAt, step, freshTable}
 use Rattle.paper.specs.Messages.{messageOf, isSound, beginTag}
 use Rattle.paper.specs.Writing.{causeAbortOctets}
 use Rattle.paper.specs.Calls.Call.{Open, OnDialogue, Receive}
@@ -22,11 +22,16 @@ use Rattle.facts.specs.Fine.{Fine}
 use Rattle.facts.specs.Whole.{view-encode}
 use Rattle.facts.specs.Ready.{Ready, encode-stands}
 use Rattle.paper.specs.Rules.{rules}
+use Rattle.readback.specs.Written.{Written}
+use Rattle.kept.specs.Requests.{Formed, requestOf}
 use Rattle.kept.specs.Steps.{WellFormed}
 use Rattle.kept.specs.Tables.{outcome-ready, ready-rules}
 use Rattle.shares.specs.Share.{Shares, Sound, below-given, refused-at-limit, refused-full, refused-why}
 use Rattle.kept.specs.Shared.{shares as fine-shares, sound as fine-sound}
 use Rattle.kept.specs.Fresh.{fresh-fine, fresh-none}
+use Rattle.demands.specs.Put.{putIn, ReadBack}
+use Rattle.demands.specs.Answered.{outcome-sent}
+use Rattle.demands.specs.Passed.{Passed, outcome-passed}
 use Rattle.demands.specs.Begins.{begin-step}
 use Rattle.demands.specs.History.{Made, gave, after, begunOf, endedOf, AllFormed, Reached, history}
 
@@ -44,6 +49,22 @@ refusal-changes-nothing l c = stand (standing l (spacesFor c))
 -- DEMAND 2, the table: what a call leaves of a table that keeps the rules keeps them, so that a table handed on is never refused by 2
 pub never-broken : (l : Lent) (c : Call) → WellFormed c → Ready (l .table) → rules (outcome l c .lent .table) ≡ true
 never-broken l c w r = ready-rules (outcome l c .lent .table) (outcome-ready l c w r)
+
+-- DEMAND 2, the messages: "each message written by any call is read back as the components and IDs put in". It stands at the start
+-- of the message space; `messageOf`, with which a received message is read, reads it as what the call puts in (Put.antt)
+pub read-back : (l : Lent) (c : Call) → Ready (l .table) → 0 < outcome l c .length
+    → ReadBack (take (outcome l c .length) (outcome l c .lent .space)) (putIn (view (l .table)) c)
+read-back l c r = outcome-sent l c r .1
+
+-- it has at most 272 octets, and none in a call that takes no message space
+pub message-fits : (l : Lent) (c : Call) → Ready (l .table) → outcome l c .length ≤ spacesFor c .space
+message-fits l c r = outcome-sent l c r .0
+
+-- what it puts in of a dialogue's waiting octets is what was passed: a component passed is listed after those that waited before
+pub passed-read-back : (l : Lent) (service dialogue class : ℕ) (v : Written) → Formed (requestOf class v) → Ready (l .table)
+    → outcome l (OnDialogue service dialogue (requestOf class v)) .answer ≡ 0
+    → Passed (placeAt (view (l .table)) (placeOf dialogue) .waiting) v (placeAt (view (outcome l (OnDialogue service dialogue (requestOf class v)) .lent .table)) (placeOf dialogue) .waiting)
+passed-read-back = outcome-passed
 
 -- an open by a service, as a host makes it
 abbrev pub asks : ℕ → Made

@@ -1,0 +1,99 @@
+-- WHAT A CALL PUTS INTO ITS MESSAGE, and that octets are read back as it (demand 2). Definitions alone.
+use mathlib.Core.Path.{_≡_}
+use mathlib.Core.List.{List, [], _∷_, _++_, map}
+use Prim.Native.Nat.{ℕ, _+_, _-_}
+use lib.ListN.{length, take}
+use Rattle.laws.specs.If.{ifEq, ifB}
+use Rattle.paper.specs.declared.Reject.{Reject}
+use Rattle.paper.specs.declared.Control.{Control}
+use Rattle.paper.specs.declared.Run.{Run}
+use Rattle.paper.specs.declared.Message.{Message}
+use Rattle.paper.specs.Sizes.{placeOf, idOctets}
+use Rattle.paper.specs.Problems.{noProblem}
+use Rattle.paper.specs.Components.{Item}
+use Rattle.paper.specs.Messages.{messageOf, isSound, uniTag, beginTag, endTag, continueTag, abortTag}
+use Rattle.paper.specs.Dialogues.{Place, Request, peerOf, rejectsFit}
+use Rattle.paper.specs.Dialogues.Request.{Invoke, Result, Error, UserReject, Cancel, Begin, Continue, End, Prearranged, Abort, Unidirectional, Timeout, RejectTimeout, NoReaction}
+use Rattle.paper.specs.Calls.{Table, Call, placeAt, octetsAt, assigned, itemsOf}
+use Rattle.paper.specs.Calls.Call.{Open, OnDialogue, Receive}
+use Rattle.readback.specs.Written.{Written, joined, itemsFrom}
+use Rattle.kept.specs.Listed.{listing, allFurther}
+
+-- a message's parts: its type; the octets of its IDs and of its dialogue portion, none where it has none; its cause, 65,535 for none;
+-- the octets of its components, and what they are listed as from the first of these octets on
+pub record Put : Type 0 where
+  pub tag : ℕ
+  pub origin : List ℕ
+  pub destination : List ℕ
+  pub portion : List ℕ
+  pub cause : ℕ
+  pub octets : List ℕ
+  pub components : List Item
+
+-- "then all waiting rejects if the sum is at most 240, else they wait"
+unfoldable pub sentRejects : Place → List Written
+sentRejects x = ifB (rejectsFit x) (map (λ (r : Reject). Written.Reject (r .id) (r .problem)) (take (x .control .count) (x .control .rejects))) []
+
+-- "Sending writes waiting components in order", then those
+abbrev pub sends : ℕ → List ℕ → List ℕ → Place → Put
+sends tag own peer x = record {
+  tag = tag;
+  origin = own;
+  destination = peer;
+  portion = [];
+  cause = noProblem;
+  octets = x .waiting ++ joined (sentRejects x);
+  components = listing (x .waiting) ++ itemsFrom (length (x .waiting)) (sentRejects x);
+}
+
+-- an Abort, with the user's dialogue portion or a cause
+abbrev pub aborts : List ℕ → List ℕ → ℕ → Put
+aborts peer portion cause =
+    record { tag = abortTag; origin = []; destination = peer; portion = portion; cause = cause; octets = []; components = [] }
+
+-- no message
+abbrev pub noPut : Put
+noPut = record { tag = 0; origin = []; destination = []; portion = []; cause = noProblem; octets = []; components = [] }
+
+-- BY A REQUEST: our ID is the dialogue's, the peer's the one that it told
+abbrev pub putBy : ℕ → Place → Request → Put
+putBy me x Begin = sends beginTag (idOctets me) [] x
+putBy me x Continue = sends continueTag (idOctets me) (peerOf (x .control)) x
+putBy me x End = sends endTag [] (peerOf (x .control)) x
+putBy me x Unidirectional = sends uniTag [] [] x
+putBy me x (Abort portion) = aborts (peerOf (x .control)) portion noProblem
+putBy me x (Invoke id linked class op par) = noPut
+putBy me x (Result tag id op par) = noPut
+putBy me x (Error id err par) = noPut
+putBy me x (UserReject id p) = noPut
+putBy me x (Cancel id) = noPut
+putBy me x Prearranged = noPut
+putBy me x (Timeout id) = noPut
+putBy me x (RejectTimeout id) = noPut
+putBy me x NoReaction = noPut
+
+-- FOR A RECEIVED MESSAGE: "unknown type, 0; order, frame or dialogue portion wrong, or end of 6C not found, 2; Begin without a place,
+-- 4; destination not assigned, 1; Continue in Received, 3"
+unfoldable pub causeOf : Table → ℕ → List ℕ → Message → ℕ
+causeOf T service s m = ifEq (m .fault) isSound (ifEq (m .tag) beginTag 4 (ifB (assigned T service s m) 3 1)) (m .fault)
+
+-- BY A CALL, where it writes a message: an Abort for a received one goes to its originating ID
+abbrev pub putIn : Table → Call → Put
+putIn T (Open service) = noPut
+putIn T (OnDialogue service dialogue r) = putBy dialogue (placeAt T (placeOf dialogue)) r
+putIn T (Receive service s) = aborts (octetsAt s (messageOf s .origin)) [] (causeOf T service s (messageOf s))
+
+-- OCTETS s, READ AS m, ARE p: no octet lies outside these parts' elements, since m is sound
+pub record IsRead (s : List ℕ) (m : Message) (p : Put) : Type 0 where
+  pub sound : m .fault ≡ isSound
+  pub tag : m .tag ≡ p .tag
+  pub origin : octetsAt s (m .origin) ≡ p .origin
+  pub destination : octetsAt s (m .destination) ≡ p .destination
+  pub portion : octetsAt s (m .portion) ≡ p .portion
+  pub cause : m .cause ≡ p .cause
+  pub octets : octetsAt s (record { start = m .from; length = m .to - m .from }) ≡ p .octets
+  pub components : itemsOf s m ≡ allFurther (m .from) (p .components)
+
+-- by the reading of a received message
+abbrev pub ReadBack : List ℕ → Put → Type 0
+ReadBack s p = IsRead s (messageOf s) p
