@@ -151,14 +151,15 @@ listing-append w l a b = by-eq {A = ℕ} (length w) 0 0 0 refl (λ z _. first z)
 
     both : (length w ≡ 0 → ⊥) → (length l ≡ 0 → ⊥) → listing (w ++ l) ≡ listing w ++ allFurther (length w) (listing l)
     both z y =
+        let sum : length (w ++ l) ≡ length w + length l = n in
         let rest : List Item = allFurther (length w) (listing l) in
         let read : (m : ℕ) → length l < m → items (w ++ l) (length (w ++ l)) m (length w) ≡ rest =
         λ m h. items-further l (w ++ l) (length w) (length l) (length (w ++ l)) (omega arith) (λ i u h. getD-append-add w l i 0) [] (λ _. refl)
         (λ m h g. absurd (omega arith)) (length l - 0 + 1) m 0 (length w) (sym (add-zero (length w))) (omega arith) (omega arith) (kept-sound l b y)
         ∙ append-nil (allFurther (length w) (components l (length l) 0)) ∙ ap (allFurther (length w)) (sym (listing-some l y)) in
-        listing-some (w ++ l) (λ e. omega arith)
+        listing-some (w ++ l) (λ q. omega arith)
         ∙ items-further w (w ++ l) 0 (length w) (length (w ++ l)) (omega arith)
-        (λ i u h. ap (λ (j : ℕ). getD (w ++ l) j 0) (zero-add i) ∙ List·getD-append w l 0 i h) rest (λ e. absurd (omega arith))
+        (λ i u h. ap (λ (j : ℕ). getD (w ++ l) j 0) (zero-add i) ∙ List·getD-append w l 0 i h) rest (λ q. absurd (omega arith))
         (λ m h g. ap (items (w ++ l) (length (w ++ l)) m) (zero-add (length w)) ∙ read m (omega arith))
         (length w - 0 + 1) (length (w ++ l) - 0 + 1) 0 0 (omega arith) (omega arith) (omega arith) (kept-sound w a z)
         ∙ ap (λ (i : List Item). allFurther 0 i ++ rest) (sym (listing-some w z))

@@ -97,7 +97,7 @@ module _ (x : Place) where
       (λ z w.
       let k = was-yes _ _ _ w (λ z. omega arith) in
       let p = was-yes _ _ _ (k .1) (λ z. omega arith) in
-      (a .0, b .0, c .0, (h, g, k .0, p .0), sym (p .1)))
+      (a .0, b .0, c .0, ((h, g, k .0, p .0), sym (p .1))))
 
   result-told : (tag id : ℕ) (op par : List ℕ) → ResultTag tag → id < 256 → resultRefusal x tag id op par ≡ 0 → Taken (Written.Result tag id op par)
   unfolding resultRefusal octetsOf
@@ -121,7 +121,7 @@ module _ (x : Place) where
       (λ z w.
       let s = was-eq _ _ _ _ w (λ z. omega arith) in
       let k = was-yes _ _ _ (s .1) (λ z. omega arith) in
-      (k .0, (h, λ z. omega (arith, s .0)), sym (k .1)))
+      (k .0, ((h, λ z. omega (arith, s .0)), sym (k .1))))
 
   pub fits : (l : List ℕ) → overfull x l ≡ 0 → length (x .waiting) + length l ≤ 240
   unfolding overfull
