@@ -10,11 +10,10 @@ use lib.Seq.{sets, sets-eq, take-at}
 use Rattle.laws.specs.If.{eq, ne, yes, no, by-eq, by-b, was-eq, was-ge}
 use Rattle.paper.specs.declared.Message.{Message}
 use Rattle.paper.specs.Sizes.{services, placeOf}
-use Rattle.paper.specs.declared.Row.{Row}
 use Rattle.paper.specs.Messages.{messageOf, isSound, beginTag, abortTag}
 use Rattle.paper.specs.Writing.{tlv, causeAbortOctets}
 use Rattle.paper.specs.Dialogues.{Place, Request, unlessRefused, refusal, does, request}
-use Rattle.paper.specs.Calls.{Table, Call, Out, placeAt, stored, requested, opened, octetsAt, destinationNumber, assigned, faultedAt, faulted, uniReceived, beginAt, beginReceived, continueReceived, endReceived, abortReceived, toDialogue, soundReceived, received, receivedIf, shows, step}
+use Rattle.paper.specs.Calls.{Table, Call, Out, placeAt, stored, requested, opened, octetsAt, destinationNumber, assigned, faultedAt, faulted, uniReceived, beginAt, beginReceived, continueReceived, endReceived, abortReceived, toDialogue, soundReceived, received, receivedIf, step}
 use Rattle.paper.specs.Calls.Call.{Open, OnDialogue, Receive}
 use Rattle.paper.specs.Layout.{view}
 use Rattle.paper.specs.Outcome.{Lent, Spaces, Outcome, spacesOf, spacesFor, standing, refusedBy, given, shown, outcome}
@@ -49,33 +48,33 @@ module _ (T : Table) (service : ℕ) (s : List ℕ) (m : Message) (in-s : Messag
   abbrev Answers : Out → Type 0
   Answers o = Sent (o .message) 272 (aborts origin [] (causeOf T service s m))
 
-  silent : {rows : List Row} {U : Table} → Answers (shows rows [] U)
+  silent : Sent [] 272 (aborts origin [] (causeOf T service s m))
   silent = none-sent 272 (aborts origin [] (causeOf T service s m))
 
-  as : {a b : Out} → a ≡ b → Answers b → Answers a
-  as z g = subst Answers (sym z) g
+  is : {a b : Out} → a ≡ b → Answers b → Answers a
+  is z g = subst Answers (sym z) g
 
   -- at fault, with its cause
   faulted-answers : (cause : ℕ) → cause < 5 → causeOf T service s m ≡ cause → Answers (faulted T service s m cause)
   unfolding faulted faultedAt
-  faulted-answers cause small is =
-      by-eq {r = faulted T service s m cause} _ _ _ _ refl (λ a z. as z silent)
-      (λ a z. by-b _ _ _ z (λ o z. as z (told a)) (λ o z. as z (told a)))
+  faulted-answers cause small told-is =
+      by-eq {r = faulted T service s m cause} _ _ _ _ refl (λ a z. is z silent)
+      (λ a z. by-b _ _ _ z (λ o z. is z (told a)) (λ o z. is z (told a)))
     where
       long : length origin ≡ m .origin .length
       long = simp (length-take, length-drop) (omega (arith, in-s .origin .lies))
 
       told : (m .origin .length ≡ 0 → ⊥) → Sent (causeAbortOctets origin cause) 272 (aborts origin [] (causeOf T service s m))
       told a =
-          subst (λ (c : ℕ). Sent (causeAbortOctets origin cause) 272 (aborts origin [] c)) (sym is)
+          subst (λ (c : ℕ). Sent (causeAbortOctets origin cause) 272 (aborts origin [] c)) (sym told-is)
           (cause-sent origin cause (omega (arith, long)) (omega (arith, long, in-s .origin .short)) small)
 
   module _ (sound : m .fault ≡ isSound) where
     begin-answers : m .tag ≡ beginTag → Answers (beginReceived T service s m)
     unfolding beginReceived beginAt causeOf
     begin-answers tag =
-        by-b {r = beginReceived T service s m} _ _ _ refl (λ b z. as z silent)
-        (λ b z. as z (faulted-answers 4 (omega arith) (sym (eq _ _ _ _ sound (eq _ _ _ _ tag refl)))))
+        by-b {r = beginReceived T service s m} _ _ _ refl (λ b z. is z silent)
+        (λ b z. is z (faulted-answers 4 (omega arith) (sym (eq _ _ _ _ sound (eq _ _ _ _ tag refl)))))
 
     dialogue-answers : (m .tag ≡ beginTag → ⊥) → assigned T service s m ≡ true → (me : ℕ) (x : Place) → Answers (toDialogue T service me s m x)
     unfolding toDialogue continueReceived endReceived abortReceived causeOf
@@ -87,16 +86,16 @@ module _ (T : Table) (service : ℕ) (s : List ℕ) (m : Message) (in-s : Messag
     sound-answers : Answers (soundReceived T service s m)
     unfolding soundReceived uniReceived causeOf
     sound-answers =
-        by-eq {r = soundReceived T service s m} _ _ _ _ refl (λ a z. as z silent)
-        (λ a z. by-eq _ _ _ _ z (λ b z. as z (begin-answers b))
-        (λ b z. by-b _ _ _ z (λ o z. as z (dialogue-answers b o _ _))
-        (λ o z. as z (faulted-answers 1 (omega arith) (sym (eq _ _ _ _ sound (ne _ _ _ _ b (no _ _ _ o refl))))))))
+        by-eq {r = soundReceived T service s m} _ _ _ _ refl (λ a z. is z silent)
+        (λ a z. by-eq _ _ _ _ z (λ b z. is z (begin-answers b))
+        (λ b z. by-b _ _ _ z (λ o z. is z (dialogue-answers b o _ _))
+        (λ o z. is z (faulted-answers 1 (omega arith) (sym (eq _ _ _ _ sound (ne _ _ _ _ b (no _ _ _ o refl))))))))
 
   received-answers : Answers (received T service s m)
   unfolding received causeOf
   received-answers =
-      by-eq {r = received T service s m} _ _ _ _ refl (λ a z. as z silent)
-      (λ a z. by-eq _ _ _ _ z (λ b z. as z (sound-answers b)) (λ b z. as z (faulted-answers (m .fault) (read .coded a b) (sym (ne _ _ _ _ b refl)))))
+      by-eq {r = received T service s m} _ _ _ _ refl (λ a z. is z silent)
+      (λ a z. by-eq _ _ _ _ z (λ b z. is z (sound-answers b)) (λ b z. is z (faulted-answers (m .fault) (read .coded a b) (sym (ne _ _ _ _ b refl)))))
 
 -- THE STEP
 module _ (T : Table) (f : Fine T) where
@@ -160,5 +159,5 @@ module _ (l : Lent) (c : Call) (r : Ready (l .table)) where
           (w .fits, λ h. subst (λ (s : List ℕ). ReadBack s (putIn (view (l .table)) c)) (sym (first-written (l .space) (out .message) (omega (arith, w .fits, room)))) (w .back h))
 
       stand : (n : ℕ) → standing l (spacesFor c) ≡ n → Told (shown n l out)
-      stand zero e = whether-eq Told _ _ _ _ (done e) (none _)
+      stand zero e = whether-eq Told (out .answer) 0 (given l out) (refusedBy (out .answer) l) (done e) (none (out .answer))
       stand (suc n) e = none (suc n)

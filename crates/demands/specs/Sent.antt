@@ -185,6 +185,12 @@ needs-peer x f e =
 own-octets : (me : ℕ) → length (tlv 0x48 (idOctets me)) ≡ 6
 own-octets me = id-length 0x48 (idOctets me) (omega arith)
 
+-- no waiting octets are no component of class 4
+none-class4 : (c : Control) (w : List ℕ) → length w ≡ 0 → every (ofClass4 c) (components w (length w) 0) ≡ true → ⊥
+unfolding components items every ofClass4 componentAt frameAt headAt tagEnd ifLt ifEq ifB tagAt
+none-class4 c [] h e = true-false (sym e)
+none-class4 c (y ∷ w) h e = omega arith
+
 -- ---- THE REQUESTS
 module _ (me : ℕ) (x : Place) (f : FinePlace x) where
   abbrev own : List ℕ
@@ -224,12 +230,7 @@ module _ (me : ℕ) (x : Place) (f : FinePlace x) where
   uni-some e z =
       let a = was-eq _ _ _ _ (sym e) (λ z. omega arith) in
       let b = was-yes _ _ _ (a .1) (λ z. omega arith) in
-      none-fails (x .waiting) (omega (arith, z, ap length (sent-is x), length-append (x .waiting) (joined (sentRejects x)))) (b .0)
-    where
-      none-fails : (w : List ℕ) → length w ≡ 0 → every (ofClass4 (x .control)) (components w (length w) 0) ≡ true → ⊥
-      unfolding components items every ofClass4 componentAt frameAt headAt tagEnd ifLt ifEq ifB tagAt
-      none-fails [] h e = true-false (sym e)
-      none-fails (y ∷ w) h e = omega arith
+      none-class4 (x .control) (x .waiting) (omega (arith, z, ap length (sent-is x), length-append (x .waiting) (joined (sentRejects x)))) (b .0)
 
   uni-sent : uniRefusal x ≡ 0 → Sent (uniOctets cs) 272 (sends uniTag [] [] x)
   uni-sent e =
