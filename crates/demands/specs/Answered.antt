@@ -1,32 +1,32 @@
 -- WHAT IS WRITTEN FOR A RECEIVED MESSAGE fits its space and is read back as what was put in, and so is what any step writes (demand 2).
 -- Assumes nothing.
 use mathlib.Core.Path.{_≡_, refl, sym, ap, subst, _∙_}
-use mathlib.Core.Bool.{Bool, true, false}
+use mathlib.Core.Bool.{true}
 use mathlib.Core.List.{List, [], _∷_, _++_}
 use Prim.Native.Nat.{ℕ, zero, suc, _+_, _≤_, _<_}
 use native.Mathlib.Omega.{arith}
 use lib.ListN.{length, take, drop, length-take, length-drop, length-append}
 use lib.Seq.{sets, sets-eq, take-at}
-use Rattle.laws.specs.If.{eq, ne, yes, no, by-eq, by-b, was-eq, was-ge}
+use Rattle.laws.specs.If.{eq, ne, yes, no, by-eq, by-b}
 use Rattle.paper.specs.declared.Message.{Message}
-use Rattle.paper.specs.Sizes.{services, placeOf}
+use Rattle.paper.specs.Sizes.{placeOf}
 use Rattle.paper.specs.Messages.{messageOf, isSound, beginTag, abortTag}
 use Rattle.paper.specs.Writing.{tlv, causeAbortOctets}
 use Rattle.paper.specs.Dialogues.{Place, Request, unlessRefused, refusal, does, request}
-use Rattle.paper.specs.Calls.{Table, Call, Out, placeAt, stored, requested, opened, octetsAt, destinationNumber, assigned, faultedAt, faulted, uniReceived, beginAt, beginReceived, continueReceived, endReceived, abortReceived, toDialogue, soundReceived, received, receivedIf, step}
+use Rattle.paper.specs.Calls.{Table, Call, Out, placeAt, stored, requested, opened, octetsAt, assigned, faultedAt, faulted, uniReceived, beginAt, beginReceived, continueReceived, endReceived, abortReceived, toDialogue, soundReceived, received, receivedIf, step}
 use Rattle.paper.specs.Calls.Call.{Open, OnDialogue, Receive}
 use Rattle.paper.specs.Layout.{view}
-use Rattle.paper.specs.Outcome.{Lent, Spaces, Outcome, spacesOf, spacesFor, standing, refusedBy, given, shown, outcome}
+use Rattle.paper.specs.Outcome.{Lent, Outcome, spacesOf, spacesFor, standing, refusedBy, given, shown, outcome}
 use Rattle.messages.specs.Bounds.{MessageIn, message-in}
-use Rattle.facts.specs.Fine.{Fine}
+use Rattle.facts.specs.Fine.{Octets, Fine}
 use Rattle.facts.specs.Owners.{owned-is}
-use Rattle.facts.specs.Ready.{Ready}
 use Rattle.writing.specs.Lengths.{length-small, element-length, id-length}
 use Rattle.readback.specs.Written.{readCauseAbort}
 use Rattle.readback.specs.ReadBack.{cause-abort-read-back}
 use Rattle.kept.specs.Leaves.{whether-lt, whether-eq, whether-b}
+use Rattle.demands.specs.Stands.{stands, stands-ready}
 use Rattle.demands.specs.Begins.{Read, message-read}
-use Rattle.demands.specs.Put.{Put, aborts, causeOf, putBy, putIn, ReadBack}
+use Rattle.demands.specs.Put.{aborts, causeOf, putBy, putIn, ReadBack}
 use Rattle.demands.specs.Sent.{Sent, none-sent, abort-read, does-sent}
 
 -- AN ABORT WITH A CAUSE, to an ID of 1 to 4 octets
@@ -127,18 +127,11 @@ module _ (T : Table) (f : Fine T) where
       (none-sent _ _)
 
 -- AT OCTETS
-stands-space : (l : Lent) (n : Spaces) → standing l n ≡ 0 → n .space ≤ length (l .space)
-unfolding standing
-stands-space l n e =
-    let a = was-eq _ _ _ _ (sym e) (λ h. omega arith) in
-    let b = was-ge _ _ _ _ (a .1) (λ h. omega arith) in
-    was-ge _ _ _ _ (b .1) (λ h. omega arith) .0
-
 -- what is written at the start of a space is read there
-pub first-written : (l m : List ℕ) → length m ≤ length l → take (length m) (sets l 0 m) ≡ m
+first-written : (l m : List ℕ) → length m ≤ length l → take (length m) (sets l 0 m) ≡ m
 first-written l m h = ap (take (length m)) (sets-eq m l 0 (omega arith)) ∙ take-at m (drop (0 + length m) l) (length m) refl
 
-module _ (l : Lent) (c : Call) (r : Ready (l .table)) where
+module _ (l : Lent) (c : Call) (octets : Octets (l .table)) where
   abbrev out : Out
   out = step (view (l .table)) c
 
@@ -154,9 +147,9 @@ module _ (l : Lent) (c : Call) (r : Ready (l .table)) where
 
       done : standing l (spacesFor c) ≡ 0 → Told (given l out)
       done e =
-          let w = step-sent (view (l .table)) (r .fine) c in
-          let room = stands-space l (spacesFor c) e in
-          (w .fits, λ h. subst (λ (s : List ℕ). ReadBack s (putIn (view (l .table)) c)) (sym (first-written (l .space) (out .message) (omega (arith, w .fits, room)))) (w .back h))
+          let w = step-sent (view (l .table)) (stands-ready l (spacesFor c) octets e .fine) c in
+          let is = first-written (l .space) (out .message) (omega (arith, w .fits, stands l (spacesFor c) e .space)) in
+          (w .fits, λ h. subst (λ (s : List ℕ). ReadBack s (putIn (view (l .table)) c)) (sym is) (w .back h))
 
       stand : (n : ℕ) → standing l (spacesFor c) ≡ n → Told (shown n l out)
       stand zero e = whether-eq Told (out .answer) 0 (given l out) (refusedBy (out .answer) l) (done e) (none (out .answer))

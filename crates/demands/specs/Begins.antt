@@ -1,24 +1,22 @@
 -- A RECEIVED BEGIN is answered by the share rule: its dialogue begins, or its Abort has cause 4. Assumes nothing.
-use mathlib.Core.Path.{_≡_, refl, sym, ap, subst, _∙_}
+use mathlib.Core.Path.{_≡_, refl, sym, ap, _∙_}
 use mathlib.Core.Bool.{Bool, true, false}
-use mathlib.Core.List.{List, [], _∷_}
-use Prim.Native.Nat.{ℕ, zero, suc, _+_, _≤_, _<_}
+use mathlib.Core.List.{List, []}
+use Prim.Native.Nat.{ℕ, _≤_, _<_}
 use native.Mathlib.Omega.{arith}
 use lib.ListN.{length, getD}
-use lib.Dec.{eqb}
-use Rattle.laws.specs.If.{ifLt, ifEq, ifB, lt, ge, eq, ne, yes, no, by-eq}
+use Rattle.laws.specs.If.{ifB, lt, ge, eq, ne, no}
 use Rattle.paper.specs.declared.Length.{Length}
 use Rattle.paper.specs.declared.Length.the-variants.{Wrong, Given, Until}
 use Rattle.paper.specs.declared.Reading.{Reading}
 use Rattle.paper.specs.declared.Reading.the-variants.{Ends, Fault}
-use Rattle.paper.specs.declared.Frame.{Frame}
 use Rattle.paper.specs.declared.Run.{Run}
 use Rattle.paper.specs.declared.Message.{Message}
 use Rattle.paper.specs.Sizes.{services, depths}
-use Rattle.paper.specs.Elements.{constructor, lengthAt, element, frameAt}
-use Rattle.paper.specs.Messages.{Derived, derived, faultOf, soundOf, closing, octetAt, componentsBy, componentsPart, abortPart, afterPortion, portionPart, inOrder, typed, byLength, messageOf, originOf, destinationOf, past, noRun, isSound, isDropped, uniTag, beginTag, abortTag}
+use Rattle.paper.specs.Elements.{lengthAt, element}
+use Rattle.paper.specs.Messages.{Derived, derived, faultOf, soundOf, closing, octetAt, componentsBy, componentsPart, abortPart, afterPortion, portionPart, inOrder, byLength, messageOf, destinationOf, noRun, isSound, isDropped, uniTag, beginTag, abortTag}
 use Rattle.paper.specs.Writing.{causeAbortOctets}
-use Rattle.paper.specs.Calls.{Table, Call, Out, mayBegin, lowestFree, owns, assigned, octetsAt, destinationNumber, faulted, shows, beginAt, beginReceived, soundReceived, received, receivedIf, refuse, step}
+use Rattle.paper.specs.Calls.{Table, mayBegin, lowestFree, assigned, octetsAt, faulted, shows, beginAt, beginReceived, soundReceived, received, receivedIf, step}
 use Rattle.paper.specs.Calls.Call.{Receive}
 use Rattle.messages.specs.Bounds.{message-in}
 use Rattle.kept.specs.Leaves.{whether-eq, whether-lt, whether-b}

@@ -4,21 +4,21 @@
 -- here speaks of another engine. Left to the host: that it hands the table on unaltered, and that spaces don't overlap.
 use mathlib.Core.Path.{_≡_, refl, sym, ap, subst, _∙_}
 use mathlib.Core.Bool.{Bool, true, false}
-use mathlib.Core.List.{List, [], _∷_}
+use mathlib.Core.List.{List, []}
 use mathlib.Core.Logic.{_⊎_, inl, inr, _↔_}
 use Prim.Native.Nat.{ℕ, zero, suc, _+_, _-_, _≤_, _<_}
 use native.Mathlib.Omega.{arith}
 use lib.ListN.{length, getD, take}
-use Rattle.laws.specs.If.{ifLt, ifEq, ifB, lt, eq, ge, yes, no, by-eq}
-use Rattle.paper.specs.Sizes.{placesInAll, services, placeOf}
+use Rattle.laws.specs.If.{ifEq, ifB, lt, eq, ge, yes, no, by-eq}
+use Rattle.paper.specs.Sizes.{placesInAll, services}
 use Rattle.paper.specs.Shares.{gives, others, free, sharesFit}
-use Rattle.paper.specs.Calls.{Table, Call, Out, placeAt, guaranteeOf, limitOf, held, mayBegin, opened, openedAt, lowestFree, refuse, shows, octetsAt, beginAt, step, freshTable}
+use Rattle.paper.specs.Calls.{Table, Call, Out, guaranteeOf, limitOf, held, mayBegin, opened, openedAt, lowestFree, refuse, shows, octetsAt, beginAt, step, freshTable}
 use Rattle.paper.specs.Messages.{messageOf, isSound, beginTag}
 use Rattle.paper.specs.Writing.{causeAbortOctets}
 use Rattle.paper.specs.Calls.Call.{Open, OnDialogue, Receive}
 use Rattle.paper.specs.Layout.{encode, view}
 use Rattle.paper.specs.Outcome.{Lent, Outcome, spacesFor, standing, given, shown, refusedBy, outcome, noSpace}
-use Rattle.facts.specs.Fine.{Fine}
+use Rattle.facts.specs.Fine.{Octets, Fine}
 use Rattle.facts.specs.Whole.{view-encode}
 use Rattle.facts.specs.Ready.{Ready, encode-stands}
 use Rattle.paper.specs.Rules.{rules}
@@ -31,7 +31,7 @@ use Rattle.kept.specs.Shared.{shares as fine-shares, sound as fine-sound}
 use Rattle.kept.specs.Fresh.{fresh-fine, fresh-none}
 use Rattle.demands.specs.Put.{putIn, ReadBack}
 use Rattle.demands.specs.Answered.{outcome-sent}
-use Rattle.demands.specs.Passed.{Passed, outcome-passed}
+use Rattle.demands.specs.Passed.{waitingOf, Passed, outcome-passed}
 use Rattle.demands.specs.Begins.{begin-step}
 use Rattle.demands.specs.History.{Made, gave, after, begunOf, endedOf, AllFormed, Reached, history}
 
@@ -50,20 +50,21 @@ refusal-changes-nothing l c = stand (standing l (spacesFor c))
 pub never-broken : (l : Lent) (c : Call) → WellFormed c → Ready (l .table) → rules (outcome l c .lent .table) ≡ true
 never-broken l c w r = ready-rules (outcome l c .lent .table) (outcome-ready l c w r)
 
--- DEMAND 2, the messages: "each message written by any call is read back as the components and IDs put in". It stands at the start
--- of the message space; `messageOf`, with which a received message is read, reads it as what the call puts in (Put.antt)
-pub read-back : (l : Lent) (c : Call) → Ready (l .table) → 0 < outcome l c .length
+-- DEMAND 2, the messages: "each message written by any call is read back as the components and IDs put in", whatever octets were
+-- lent as a table. It stands at the start of the message space; `messageOf`, by which a received message is read, reads it as what
+-- the call puts in (Put.antt)
+pub read-back : (l : Lent) (c : Call) → Octets (l .table) → 0 < outcome l c .length
     → ReadBack (take (outcome l c .length) (outcome l c .lent .space)) (putIn (view (l .table)) c)
-read-back l c r = outcome-sent l c r .1
+read-back l c o = outcome-sent l c o .1
 
--- it has at most 272 octets, and none in a call that takes no message space
-pub message-fits : (l : Lent) (c : Call) → Ready (l .table) → outcome l c .length ≤ spacesFor c .space
-message-fits l c r = outcome-sent l c r .0
+-- it has at most 272 octets, and a call that takes no message space writes none
+pub message-fits : (l : Lent) (c : Call) → Octets (l .table) → outcome l c .length ≤ spacesFor c .space
+message-fits l c o = outcome-sent l c o .0
 
--- what it puts in of a dialogue's waiting octets is what was passed: a component passed is listed after those that waited before
-pub passed-read-back : (l : Lent) (service dialogue class : ℕ) (v : Written) → Formed (requestOf class v) → Ready (l .table)
+-- a component passed waits after those that waited, and is listed as what was put in
+pub passed-read-back : (l : Lent) (service dialogue class : ℕ) (v : Written) → Formed (requestOf class v) → Octets (l .table)
     → outcome l (OnDialogue service dialogue (requestOf class v)) .answer ≡ 0
-    → Passed (placeAt (view (l .table)) (placeOf dialogue) .waiting) v (placeAt (view (outcome l (OnDialogue service dialogue (requestOf class v)) .lent .table)) (placeOf dialogue) .waiting)
+    → Passed (waitingOf (l .table) dialogue) v (waitingOf (outcome l (OnDialogue service dialogue (requestOf class v)) .lent .table) dialogue)
 passed-read-back = outcome-passed
 
 -- an open by a service, as a host makes it

@@ -1,3 +1,4 @@
+pub mod Stands
 pub mod Rows
 pub mod Fits
 pub mod Begins

@@ -10,17 +10,21 @@ use Rattle.paper.specs.Dialogues.{Place, Done, unlessRefused, refusal, does, re
 use Rattle.paper.specs.Calls.{Table, Call, Out, placeAt, stored, requested, step}
 use Rattle.paper.specs.Calls.Call.{OnDialogue}
 use Rattle.paper.specs.Layout.{view}
-use Rattle.paper.specs.Outcome.{Lent, Outcome, spacesFor, standing, given, refusedBy, shown, outcome}
-use Rattle.facts.specs.Fine.{FinePlace, Fine}
+use Rattle.paper.specs.Outcome.{Lent, Outcome, spacesFor, standing, shown, outcome}
+use Rattle.facts.specs.Fine.{Octets, FinePlace, Fine}
 use Rattle.facts.specs.Changes.{place-same}
 use Rattle.facts.specs.Owners.{owned-is}
-use Rattle.facts.specs.Ready.{Ready}
-use Rattle.readback.specs.Written.{Written, Invoke, Result, Error, Reject, octetsOf, Allowed, readAs}
+use Rattle.readback.specs.Written.{Written, Invoke, Result, Error, Reject, octetsOf, readAs}
 use Rattle.kept.specs.Requests.{Formed, requestOf, passed-taken, fits}
 use Rattle.kept.specs.Listed.{listing}
 use Rattle.kept.specs.Waiting.{listing-put}
 use Rattle.kept.specs.Steps.{does-answers}
 use Rattle.kept.specs.Tables.{outcome-view}
+use Rattle.demands.specs.Stands.{stands-ready}
+
+-- a dialogue's waiting octets in a table
+abbrev pub waitingOf : List ℕ → ℕ → List ℕ
+waitingOf t dialogue = placeAt (view t) (placeOf dialogue) .waiting
 
 -- from waiting octets w to those after a component v
 pub record Passed (w : List ℕ) (v : Written) (after : List ℕ) : Type 0 where
@@ -86,11 +90,12 @@ answered l c = stand (standing l (spacesFor c)) refl
     stand zero e a = (e, by-eq {r = shown 0 l o} _ _ _ _ refl (λ z _. z) (λ z y. absurd (z (sym (ap (λ (x : Outcome). x .answer) y) ∙ a))))
     stand (suc n) e a = absurd (omega arith)
 
-pub outcome-passed : (l : Lent) (service dialogue class : ℕ) (v : Written) → Formed (requestOf class v) → Ready (l .table)
+pub outcome-passed : (l : Lent) (service dialogue class : ℕ) (v : Written) → Formed (requestOf class v) → Octets (l .table)
     → outcome l (OnDialogue service dialogue (requestOf class v)) .answer ≡ 0
-    → Passed (placeAt (view (l .table)) (placeOf dialogue) .waiting) v (placeAt (view (outcome l (OnDialogue service dialogue (requestOf class v)) .lent .table)) (placeOf dialogue) .waiting)
-outcome-passed l service dialogue class v w r a =
+    → Passed (waitingOf (l .table) dialogue) v (waitingOf (outcome l (OnDialogue service dialogue (requestOf class v)) .lent .table) dialogue)
+outcome-passed l service dialogue class v w octets a =
     let s = answered l (OnDialogue service dialogue (requestOf class v)) a in
-    subst (λ (U : Table). Passed (placeAt (view (l .table)) (placeOf dialogue) .waiting) v (placeAt U (placeOf dialogue) .waiting))
+    let r = stands-ready l (spacesFor (OnDialogue service dialogue (requestOf class v))) octets (s .0) in
+    subst (λ (U : Table). Passed (waitingOf (l .table) dialogue) v (placeAt U (placeOf dialogue) .waiting))
     (sym (outcome-view l (OnDialogue service dialogue (requestOf class v)) w r (s .0)))
     (step-passed (view (l .table)) (r .fine) service dialogue class v w (s .1))

@@ -1,12 +1,10 @@
 -- WHAT A CALL PUTS INTO ITS MESSAGE, and that octets are read back as it (demand 2). Definitions alone.
 use mathlib.Core.Path.{_≡_}
-use mathlib.Core.List.{List, [], _∷_, _++_, map}
-use Prim.Native.Nat.{ℕ, _+_, _-_}
+use mathlib.Core.List.{List, [], _++_, map}
+use Prim.Native.Nat.{ℕ, _-_}
 use lib.ListN.{length, take}
 use Rattle.laws.specs.If.{ifEq, ifB}
 use Rattle.paper.specs.declared.Reject.{Reject}
-use Rattle.paper.specs.declared.Control.{Control}
-use Rattle.paper.specs.declared.Run.{Run}
 use Rattle.paper.specs.declared.Message.{Message}
 use Rattle.paper.specs.Sizes.{placeOf, idOctets}
 use Rattle.paper.specs.Problems.{noProblem}

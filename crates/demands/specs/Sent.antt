@@ -1,10 +1,9 @@
 -- WHAT A REQUEST WRITES fits its space and is read back as what was put in (demand 2). Assumes nothing.
 use mathlib.Core.Path.{_≡_, refl, sym, ap, subst, _∙_}
-use mathlib.Core.Bool.{Bool, true, false}
+use mathlib.Core.Bool.{true}
 use mathlib.Core.List.{List, [], _∷_, _++_, map, append-nil}
 use Prim.Native.Nat.{ℕ, zero, suc, _+_, _-_, _≤_, _<_}
 use native.Mathlib.Omega.{arith}
-use lib.Dec.{leb}
 use lib.ListN.{length, getD, take, length-append}
 use lib.Seq.{length-take-le}
 use borrow.Author.Tests.{leb-true}
@@ -14,12 +13,12 @@ use Rattle.paper.specs.declared.Reject.{Reject}
 use Rattle.paper.specs.declared.Control.{Control}
 use Rattle.paper.specs.declared.Message.{Message}
 use Rattle.paper.specs.Sizes.{idOctets}
-use Rattle.paper.specs.Problems.{senderOf, senderOfProblem, noProblem}
+use Rattle.paper.specs.Problems.{noProblem}
 use Rattle.paper.specs.Elements.{tagEnd, headAt, frameAt}
 use Rattle.paper.specs.Components.{Item, tagAt, componentAt, items, components}
 use Rattle.paper.specs.Messages.{Derived, uniTag, beginTag, endTag, continueTag, abortTag, noRun, isSound}
 use Rattle.paper.specs.Writing.{tlv, componentsOctets, beginOctets, continueOctets, endOctets, uniOctets, userAbortOctets}
-use Rattle.paper.specs.Dialogues.{Place, Request, noReject, peerOf, isPortion, allRejects, waitingRejects, rejectsFit, sentComponents, needsPeer, ofClass4, uniRefusal, abortRefusal, abortMessage, refusal, does}
+use Rattle.paper.specs.Dialogues.{Place, Request, noReject, peerOf, allRejects, waitingRejects, rejectsFit, sentComponents, needsPeer, ofClass4, uniRefusal, abortRefusal, abortMessage, refusal, does}
 use Rattle.paper.specs.Dialogues.Request.{Invoke, Result, Error, UserReject, Cancel, Begin, Continue, End, Prearranged, Abort, Unidirectional, Timeout, RejectTimeout, NoReaction}
 use Rattle.paper.specs.Calls.{octetsAt, itemsOf}
 use Rattle.paper.specs.Rules.{hasPeer, waitingKept}
@@ -27,14 +26,14 @@ use Rattle.paper.specs.Outcome.{spacesOf}
 use Rattle.facts.specs.Fine.{FineReject, FineControl, FinePlace}
 use Rattle.writing.specs.Heads.{messageHead, begin-joined, continue-joined, end-joined, uni-joined}
 use Rattle.writing.specs.Lengths.{length-small, element-length, message-small, message-length, id-length}
-use Rattle.readback.specs.Written.{Written, octetsOf, joined, AllAllowed, itemsFrom, starts, run, fromOf, toOf, withComponents, Back, readUserAbort}
+use Rattle.readback.specs.Written.{Written, octetsOf, joined, AllAllowed, itemsFrom, starts, run, withComponents, Back, readUserAbort}
 use Rattle.readback.specs.Reading.{has-octets}
 use Rattle.readback.specs.ReadBack.{begin-read-back, continue-read-back, end-read-back, uni-read-back, user-abort-read-back}
 use Rattle.kept.specs.Leaves.{whether-b}
 use Rattle.kept.specs.Requests.{peers}
 use Rattle.kept.specs.Listed.{listing, allFurther, listing-none, listing-copied}
 use Rattle.kept.specs.Waiting.{waiting-append, joined-kept, listing-written}
-use Rattle.demands.specs.Put.{Put, sentRejects, sends, aborts, noPut, putBy, IsRead, ReadBack}
+use Rattle.demands.specs.Put.{Put, sentRejects, sends, aborts, putBy, IsRead, ReadBack}
 
 -- s fits n octets of space and, where it is a message, is read back as p
 pub record Sent (s : List ℕ) (n : ℕ) (p : Put) : Type 0 where

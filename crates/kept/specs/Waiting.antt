@@ -8,9 +8,8 @@ use native.Mathlib.Omega.{arith}
 use lib.ListN.{length, length-append}
 use lib.Seq.{getD-append-add}
 use Rattle.laws.specs.If.{eq, ne, by-eq}
-use Rattle.laws.specs.Lists.{every}
 use Rattle.paper.specs.Components.{Item, components}
-use Rattle.paper.specs.Rules.{isSoundItem, waitingKept}
+use Rattle.paper.specs.Rules.{waitingKept}
 use Rattle.readback.specs.Standing.{Has, has-all}
 use Rattle.readback.specs.Written.{Written, Invoke, Result, Error, Reject, octetsOf, Allowed, readAs, joined, AllAllowed, itemsFrom}
 use Rattle.readback.specs.Listing.{octets-some}
