@@ -203,10 +203,14 @@ module _ (g l : List ℕ) (a : length g ≡ 16) (b : length l ≡ 16)
     abbrev begins : Made
     begins = record { call = Receive s msg; rows = rows; space = space }
 
+    -- what it is answered
+    abbrev pub reply : Outcome
+    reply = gave (after start ms) begins
+
     abbrev lent : Lent
     lent = record { table = encode (reached .to); rows = rows; space = space }
 
-    begin-is : (o : Out) → step (reached .to) (Receive s msg) ≡ o → o .answer ≡ 0 → gave (after start ms) begins ≡ given lent o
+    begin-is : (o : Out) → step (reached .to) (Receive s msg) ≡ o → o .answer ≡ 0 → reply ≡ given lent o
     begin-is o e z =
         ap (λ (t : List ℕ). gave t begins) (reached .table) ∙ received (reached .to) (reached .fine) s msg rows space wide long
         ∙ ap (shown 0 lent) e ∙ sym (eq _ _ _ _ z refl)
@@ -219,17 +223,17 @@ module _ (g l : List ℕ) (a : length g ≡ 16) (b : length l ≡ 16)
 
     -- where the rule gives, the dialogue begins: the outcome is that of a Begin with a place, whose first row is BEGIN
     pub begin-given : gives placesInAll services guarantee limit dialogues s ≡ true
-        → gave (after start ms) begins ≡ given lent (beginAt (reached .to) s (lowestFree (reached .to)) msg (messageOf msg))
+        → reply ≡ given lent (beginAt (reached .to) s (lowestFree (reached .to)) msg (messageOf msg))
     unfolding beginAt
     begin-given e = begin-is _ (by-rule true e ∙ sym (yes true _ _ refl refl)) refl
 
     -- else it is refused with cause 4: no row, an Abort to its originating ID, the table as it was
     pub begin-refused : gives placesInAll services guarantee limit dialogues s ≡ false
-        → gave (after start ms) begins ≡ given lent (shows [] (causeAbortOctets (octetsAt msg (messageOf msg .origin)) 4) (reached .to))
+        → reply ≡ given lent (shows [] (causeAbortOctets (octetsAt msg (messageOf msg .origin)) 4) (reached .to))
     begin-refused e = begin-is _ (by-rule false e ∙ sym (no false _ _ refl refl)) refl
 
     -- below its guarantee never; at or above it exactly as an open
-    pub begin-never-refused : dialogues s < guarantee s → gave (after start ms) begins ≡ given lent (beginAt (reached .to) s (lowestFree (reached .to)) msg (messageOf msg))
+    pub begin-never-refused : dialogues s < guarantee s → reply ≡ given lent (beginAt (reached .to) s (lowestFree (reached .to)) msg (messageOf msg))
     begin-never-refused q = begin-given (below-given placesInAll services guarantee limit dialogues s q)
 
     pub begin-refused-exactly : guarantee s ≤ dialogues s
