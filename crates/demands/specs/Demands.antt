@@ -52,8 +52,8 @@ never-broken l c w r = ready-rules (outcome l c .lent .table) (outcome-ready l c
 
 -- DEMAND 2, the messages: "each message written by any call is read back as the components and IDs put in", whatever octets were
 -- lent as a table. It stands at the start of the message space; `messageOf`, by which a received message is read, reads it as what
--- the call puts in (Put.antt)
-pub read-back : (l : Lent) (c : Call) → Octets (l .table) → 0 < outcome l c .length
+-- the call puts in (Put.antt), and it is none exactly where that is none
+pub read-back : (l : Lent) (c : Call) → Octets (l .table) → outcome l c .answer ≡ 0
     → ReadBack (take (outcome l c .length) (outcome l c .lent .space)) (putIn (view (l .table)) c)
 read-back l c o = outcome-sent l c o .1
 

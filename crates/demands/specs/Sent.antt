@@ -1,13 +1,14 @@
 -- WHAT A REQUEST WRITES fits its space and is read back as what was put in (demand 2). Assumes nothing.
 use mathlib.Core.Path.{_≡_, refl, sym, ap, subst, _∙_}
-use mathlib.Core.Bool.{true}
+use mathlib.Core.Bool.{true, false}
+use mathlib.Core.Option.{Option, none, some}
 use mathlib.Core.List.{List, [], _∷_, _++_, map, append-nil}
 use Prim.Native.Nat.{ℕ, zero, suc, _+_, _-_, _≤_, _<_}
 use native.Mathlib.Omega.{arith}
 use lib.ListN.{length, getD, take, length-append}
 use lib.Seq.{length-take-le}
-use borrow.Author.Tests.{leb-true}
-use Rattle.laws.specs.If.{ifLt, ifEq, ifB, eq, ne, yes, no, by-eq, by-b, was-eq, was-ge, was-yes, true-false}
+use borrow.Author.Tests.{leb-true, eq-eqb, ne-eqb}
+use Rattle.laws.specs.If.{ifLt, ifEq, ifB, eq, ne, yes, no, by-eq, either-eq, by-b, was-eq, was-ge, was-yes, true-false}
 use Rattle.laws.specs.Lists.{every}
 use Rattle.paper.specs.declared.Reject.{Reject}
 use Rattle.paper.specs.declared.Control.{Control}
@@ -30,18 +31,17 @@ use Rattle.readback.specs.Written.{Written, octetsOf, joined, AllAllowed, items
 use Rattle.readback.specs.Reading.{has-octets}
 use Rattle.readback.specs.ReadBack.{begin-read-back, continue-read-back, end-read-back, uni-read-back, user-abort-read-back}
 use Rattle.kept.specs.Leaves.{whether-b}
-use Rattle.kept.specs.Requests.{peers}
 use Rattle.kept.specs.Listed.{listing, allFurther, listing-none, listing-copied}
 use Rattle.kept.specs.Waiting.{waiting-append, joined-kept, listing-written}
 use Rattle.demands.specs.Put.{Put, sentRejects, sends, aborts, putBy, IsRead, ReadBack}
 
--- s fits n octets of space and, where it is a message, is read back as p
-pub record Sent (s : List ℕ) (n : ℕ) (p : Put) : Type 0 where
+-- s fits n octets of space and is read back as p
+pub record Sent (s : List ℕ) (n : ℕ) (p : Option Put) : Type 0 where
   pub fits : length s ≤ n
-  pub back : 0 < length s → ReadBack s p
+  pub back : ReadBack s p
 
-pub none-sent : (n : ℕ) (p : Put) → Sent [] n p
-none-sent n p = record { fits = omega arith; back = λ h. absurd (omega arith) }
+pub none-sent : (n : ℕ) → Sent [] n none
+none-sent n = record { fits = omega arith; back = refl }
 
 -- ---- THE COMPONENTS THAT ARE SENT
 abbrev written : Reject → Written
@@ -115,7 +115,7 @@ module _ (s cs own peer : List ℕ) (d : Derived) (kept : waitingKept cs ≡ tru
   ends : m .from + length cs ≤ length s
   ends = by-eq {r = m .to} _ _ _ _ refl (λ z e. omega (arith, back .ends)) (λ z e. omega (arith, back .ends))
 
-  with-read : ReadBack s (holds (d .tag) own peer cs (listing cs))
+  with-read : ReadBack s (some (holds (d .tag) own peer cs (listing cs)))
   with-read = subst (λ (m : Message). IsRead s m (holds (d .tag) own peer cs (listing cs))) (sym (back .is)) (record {
     sound = refl;
     tag = refl;
@@ -129,7 +129,7 @@ module _ (s cs own peer : List ℕ) (d : Derived) (kept : waitingKept cs ≡ tru
 
 -- an Abort has no components
 pub abort-read : (s : List ℕ) (m : Message) (peer portion : List ℕ) (cause : ℕ) → Back s m [] peer portion [] → m .fault ≡ isSound → m .tag ≡ abortTag → m .cause ≡ cause
-    → m .from ≡ 0 → m .to ≡ 0 → ReadBack s (aborts peer portion cause)
+    → m .from ≡ 0 → m .to ≡ 0 → ReadBack s (some (aborts peer portion cause))
 unfolding itemsOf
 abort-read s m peer portion cause back sound tag told from to =
     subst (λ (m : Message). IsRead s m (aborts peer portion cause)) (sym (back .is)) (record {
@@ -155,12 +155,12 @@ module _ (x : Place) (f : FinePlace x) (tag : ℕ) (ids ms own peer : List ℕ) 
       let j = length-append (messageHead tag ids (length cs)) cs in
       (omega (arith, n, j, ap length joins), omega (arith, n, h, j, ap length joins, sent-few x f))
 
-  sending : Sent ms 272 (sends (d .tag) own peer x)
+  sending : Sent ms 272 (some (sends (d .tag) own peer x))
   sending = record {
     fits = long .1;
-    back = λ _.
-        subst (λ (l : List ℕ). ReadBack ms (holds (d .tag) own peer l (listing (x .waiting) ++ itemsFrom (length (x .waiting)) (sentRejects x)))) (sent-is x)
-        (subst (λ (l : List Item). ReadBack ms (holds (d .tag) own peer (sentComponents x) l)) (sent-listed x f)
+    back =
+        subst (λ (l : List ℕ). ReadBack ms (some (holds (d .tag) own peer l (listing (x .waiting) ++ itemsFrom (length (x .waiting)) (sentRejects x))))) (sent-is x)
+        (subst (λ (l : List Item). ReadBack ms (some (holds (d .tag) own peer (sentComponents x) l))) (sent-listed x f)
         (with-read ms (sentComponents x) own peer d (sent-kept x f) (long .0) (back (omega (arith, long .1)))));
   }
 
@@ -172,14 +172,18 @@ module _ (c : Control) (f : FineControl c) where
   peer-octets : length (tlv 0x49 (peerOf c)) ≤ 6
   peer-octets = omega (arith, peer-long, f .peer .most, id-length 0x49 (peerOf c) (omega (arith, peer-long, f .peer .most)))
 
+-- it has one where Continue isn't refused
+peer-told : (x : Place) → (needsPeer x ≡ 0 → hasPeer (x .control .state) ≡ true) × ((needsPeer x ≡ 0 → ⊥) → hasPeer (x .control .state) ≡ false)
+unfolding needsPeer hasPeer
+peer-told x = (
+  λ e. by-eq _ _ _ _ (sym e) (λ a _. sym (eq _ _ _ _ a refl)) (λ a z. let b = was-eq _ _ _ _ z (λ z. omega arith) in sym (ne _ _ _ _ a (sym (eq-eqb (x .control .state) 4 (b .0))))),
+  λ n. sym (ne _ _ _ _ (λ a. n (sym (eq _ _ _ _ a refl))) (sym (ne-eqb (x .control .state) 4 (λ b. n (sym (either-eq _ _ _ _ refl (eq _ _ _ _ b refl))))))),
+)
+
 needs-peer : (x : Place) → FinePlace x → needsPeer x ≡ 0 → (1 ≤ length (peerOf (x .control))) × (length (peerOf (x .control)) ≤ 4)
-unfolding needsPeer
 needs-peer x f e =
-    let c : Control = x .control in
-    by-eq _ _ _ _ (sym e)
-    (λ a _. let s = f .control .peer .some (ap hasPeer a ∙ peers .2) in (omega (arith, s, peer-long c (f .control)), omega (arith, f .control .peer .most, peer-long c (f .control))))
-    (λ a z. let b = was-eq _ _ _ _ z (λ z. omega arith) in
-    let s = f .control .peer .some (ap hasPeer (b .0) ∙ peers .3) in (omega (arith, s, peer-long c (f .control)), omega (arith, f .control .peer .most, peer-long c (f .control))))
+    let n = peer-long (x .control) (f .control) in
+    (omega (arith, n, f .control .peer .some (peer-told x .0 e)), omega (arith, n, f .control .peer .most))
 
 own-octets : (me : ℕ) → length (tlv 0x48 (idOctets me)) ≡ 6
 own-octets me = id-length 0x48 (idOctets me) (omega arith)
@@ -201,13 +205,13 @@ module _ (me : ℕ) (x : Place) (f : FinePlace x) where
   abbrev cs : List ℕ
   cs = sentComponents x
 
-  begin-sent : Sent (beginOctets own cs) 272 (sends beginTag own [] x)
+  begin-sent : Sent (beginOctets own cs) 272 (some (sends beginTag own [] x))
   begin-sent =
       sending x f beginTag (tlv 0x48 own) (beginOctets own cs) own []
       (record { tag = beginTag; origin = run (starts (tlv 0x48 own ++ componentsOctets cs) + 2) (length own); destination = noRun })
       (omega (arith, own-octets me)) (begin-joined own cs) (begin-read-back own (omega arith) (omega arith) cs)
 
-  continue-sent : needsPeer x ≡ 0 → Sent (continueOctets own peer cs) 272 (sends continueTag own peer x)
+  continue-sent : needsPeer x ≡ 0 → Sent (continueOctets own peer cs) 272 (some (sends continueTag own peer x))
   continue-sent e =
       let b : ℕ = starts (tlv 0x48 own ++ (tlv 0x49 peer ++ componentsOctets cs)) in
       let p = needs-peer x f e in
@@ -216,7 +220,7 @@ module _ (me : ℕ) (x : Place) (f : FinePlace x) where
       (omega (arith, own-octets me, peer-octets (x .control) (f .control), length-append (tlv 0x48 own) (tlv 0x49 peer)))
       (continue-joined own peer cs) (continue-read-back own (omega arith) (omega arith) peer (p .0) (p .1) cs)
 
-  end-sent : needsPeer x ≡ 0 → Sent (endOctets peer cs) 272 (sends endTag [] peer x)
+  end-sent : needsPeer x ≡ 0 → Sent (endOctets peer cs) 272 (some (sends endTag [] peer x))
   end-sent e =
       let p = needs-peer x f e in
       sending x f endTag (tlv 0x49 peer) (endOctets peer cs) [] peer
@@ -231,11 +235,11 @@ module _ (me : ℕ) (x : Place) (f : FinePlace x) where
       let b = was-yes _ _ _ (a .1) (λ z. omega arith) in
       none-class4 (x .control) (x .waiting) (omega (arith, z, ap length (sent-is x), length-append (x .waiting) (joined (sentRejects x)))) (b .0)
 
-  uni-sent : uniRefusal x ≡ 0 → Sent (uniOctets cs) 272 (sends uniTag [] [] x)
+  uni-sent : uniRefusal x ≡ 0 → Sent (uniOctets cs) 272 (some (sends uniTag [] [] x))
   uni-sent e =
       sending x f uniTag [] (uniOctets cs) [] [] (record { tag = uniTag; origin = noRun; destination = noRun }) (omega arith) (uni-joined cs) (uni-read-back cs (uni-some e))
 
-  user-abort-sent : (portion : List ℕ) → abortRefusal portion ≡ 0 → needsPeer x ≡ 0 → Sent (userAbortOctets peer portion) 272 (aborts peer portion noProblem)
+  user-abort-sent : (portion : List ℕ) → abortRefusal portion ≡ 0 → needsPeer x ≡ 0 → Sent (userAbortOctets peer portion) 272 (some (aborts peer portion noProblem))
   unfolding abortRefusal userAbortOctets
   user-abort-sent portion e n =
       let a = was-yes _ _ _ (sym e) (λ z. omega arith) in
@@ -246,14 +250,16 @@ module _ (me : ℕ) (x : Place) (f : FinePlace x) where
       let few : length s ≤ 272 =
       omega (arith, element-length abortTag (ids ++ portion), length-small (length (ids ++ portion)), length-append ids portion, peer-octets (x .control) (f .control), b .0) in
       let back = user-abort-read-back peer (p .0) (p .1) portion (a .0) (omega arith) in
-      record { fits = few; back = λ _. abort-read s (readUserAbort peer portion) peer portion noProblem back refl refl refl refl refl }
+      record { fits = few; back = abort-read s (readUserAbort peer portion) peer portion noProblem back refl refl refl refl refl }
 
-  abort-sent : (portion : List ℕ) → abortRefusal portion ≡ 0 → Sent (abortMessage x portion) 272 (aborts peer portion noProblem)
+  abort-sent : (portion : List ℕ) → abortRefusal portion ≡ 0 → Sent (abortMessage x portion) 272 (putBy me x (Abort portion))
   unfolding abortMessage
   abort-sent portion e =
       by-eq {r = abortMessage x portion} _ _ _ _ refl
-      (λ n z. subst (λ (s : List ℕ). Sent s 272 (aborts peer portion noProblem)) (sym z) (user-abort-sent portion e n))
-      (λ n z. subst (λ (s : List ℕ). Sent s 272 (aborts peer portion noProblem)) (sym z) (none-sent 272 (aborts peer portion noProblem)))
+      (λ n z. subst (λ (s : List ℕ). Sent s 272 (putBy me x (Abort portion))) (sym z)
+      (subst (Sent (userAbortOctets peer portion) 272) (yes _ _ _ (peer-told x .0 n) refl) (user-abort-sent portion e n)))
+      (λ n z. subst (λ (s : List ℕ). Sent s 272 (putBy me x (Abort portion))) (sym z)
+      (subst (Sent [] 272) (no _ _ _ (peer-told x .1 n) refl) (none-sent 272)))
 
   -- WHAT A REQUEST THAT ISN'T REFUSED WRITES
   pub does-sent : (r : Request) → refusal x r ≡ 0 → Sent (does me x r .message) (spacesOf r .space) (putBy me x r)
@@ -263,12 +269,12 @@ module _ (me : ℕ) (x : Place) (f : FinePlace x) where
   does-sent End e = end-sent e
   does-sent Unidirectional e = uni-sent e
   does-sent (Abort portion) e = abort-sent portion e
-  does-sent (Invoke id linked class op par) e = none-sent _ _
-  does-sent (Result tag id op par) e = none-sent _ _
-  does-sent (Error id err par) e = none-sent _ _
-  does-sent (UserReject id p) e = none-sent _ _
-  does-sent (Cancel id) e = none-sent _ _
-  does-sent Prearranged e = none-sent _ _
-  does-sent (Timeout id) e = none-sent _ _
-  does-sent (RejectTimeout id) e = none-sent _ _
-  does-sent NoReaction e = none-sent _ _
+  does-sent (Invoke id linked class op par) e = none-sent _
+  does-sent (Result tag id op par) e = none-sent _
+  does-sent (Error id err par) e = none-sent _
+  does-sent (UserReject id p) e = none-sent _
+  does-sent (Cancel id) e = none-sent _
+  does-sent Prearranged e = none-sent _
+  does-sent (Timeout id) e = none-sent _
+  does-sent (RejectTimeout id) e = none-sent _
+  does-sent NoReaction e = none-sent _
