@@ -30,9 +30,13 @@ pub record Put : Type 0 where
   pub octets : List ℕ
   pub components : List Item
 
+-- a waiting reject, as a component
+abbrev pub rejectOf : Reject → Written
+rejectOf r = Written.Reject (r .id) (r .problem)
+
 -- "then all waiting rejects if the sum is at most 240, else they wait"
 unfoldable pub sentRejects : Place → List Written
-sentRejects x = ifB (rejectsFit x) (map (λ (r : Reject). Written.Reject (r .id) (r .problem)) (take (x .control .count) (x .control .rejects))) []
+sentRejects x = ifB (rejectsFit x) (map rejectOf (take (x .control .count) (x .control .rejects))) []
 
 -- "Sending writes waiting components in order", then those
 abbrev pub sends : ℕ → List ℕ → List ℕ → Place → Put

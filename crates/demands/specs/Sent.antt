@@ -33,7 +33,7 @@ use Rattle.readback.specs.ReadBack.{begin-read-back, continue-read-back, end-re
 use Rattle.kept.specs.Leaves.{whether-b}
 use Rattle.kept.specs.Listed.{listing, allFurther, listing-none, listing-copied}
 use Rattle.kept.specs.Waiting.{waiting-append, joined-kept, listing-written}
-use Rattle.demands.specs.Put.{Put, sentRejects, sends, aborts, putBy, IsRead, ReadBack}
+use Rattle.demands.specs.Put.{Put, rejectOf, sentRejects, sends, aborts, putBy, IsRead, ReadBack}
 
 -- s fits n octets of space and is read back as p
 pub record Sent (s : List ℕ) (n : ℕ) (p : Option Put) : Type 0 where
@@ -44,16 +44,13 @@ pub none-sent : (n : ℕ) → Sent [] n none
 none-sent n = record { fits = omega arith; back = refl }
 
 -- ---- THE COMPONENTS THAT ARE SENT
-abbrev written : Reject → Written
-written r = Written.Reject (r .id) (r .problem)
-
-rejects-joined : (rs : List Reject) → allRejects rs ≡ joined (map written rs)
+rejects-joined : (rs : List Reject) → allRejects rs ≡ joined (map rejectOf rs)
 unfolding allRejects joined octetsOf
 rejects-joined [] = refl
-rejects-joined (r ∷ rs) = ap (λ (l : List ℕ). octetsOf (written r) ++ l) (rejects-joined rs)
+rejects-joined (r ∷ rs) = ap (λ (l : List ℕ). octetsOf (rejectOf r) ++ l) (rejects-joined rs)
 
 -- "waiting rejects are ones the component sub-layer sends"
-rejects-allowed : (n : ℕ) (l : List Reject) → ((i : ℕ) → i < n → i < length l → FineReject (getD l i noReject)) → AllAllowed (map written (take n l))
+rejects-allowed : (n : ℕ) (l : List Reject) → ((i : ℕ) → i < n → i < length l → FineReject (getD l i noReject)) → AllAllowed (map rejectOf (take n l))
 rejects-allowed zero l f = tt
 rejects-allowed (suc n) [] f = tt
 rejects-allowed (suc n) (r ∷ l) f =
