@@ -8,10 +8,6 @@
 #include <stdlib.h>
 #include <string.h>
 
-/* docs/TABLE.md */
-#define PLACES_AT 48
-#define PLACE_OCTETS 284
-
 static uint8_t rows[TCAP_ROWS_OCTETS], space[TCAP_SPACE_OCTETS], kept[TCAP_TABLE_OCTETS];
 static struct octets message;
 
@@ -27,57 +23,42 @@ static void need(struct tcap_reply r, uint32_t answer)
     }
 }
 
-static struct tcap_reply request(struct request r)
-{
-    struct lent l = { the_table, rows, space, r.first.octet, r.second.octet };
-    return make_call(&r, &l);
-}
-
-/* ---- TABLES ------------------------------------------------------------------------------------------------------------------------- */
-
-/* Makes places 1 to n - 1 as place 0 is: what n calls of each kind would leave, without the calls. */
-static void copies(size_t n)
-{
-    for (size_t p = 1; p < n; p++) {
-        memcpy(the_table + PLACES_AT + p * PLACE_OCTETS, the_table + PLACES_AT, PLACE_OCTETS);
-        the_table[p / 8] = (uint8_t)(the_table[p / 8] & ~(1u << p % 8));
-    }
-}
+/* ---- TABLES -------------------------------------------------------------------------------------------------------------------------- */
 
 static void empty(void)
 {
-    need(request(ask_fresh(repeat(16, one(0)), repeat(16, one(128)))), TCAP_DONE);
+    made(ask_fresh(repeat(16, one(0)), repeat(16, one(128))));
 }
 
 /* Place 0 is Active, service 3, with this many invocations Sent. */
 static void active(int invocations)
 {
     empty();
-    need(request(ask(CALL_OPEN, 3, 0)), TCAP_DONE);
+    made(ask(CALL_OPEN, 3, 0));
     for (int id = 0; id < invocations; id++)
-        need(request(ask_invoke(3, 0, id, 1)), TCAP_DONE);
-    need(request(ask(CALL_BEGIN, 3, 0)), TCAP_DONE);
-    need(request(ask_receive(3, hex("65 09 48 01 07 49 04 00 00 00 00"))), TCAP_DONE);
+        made(ask_invoke(3, 0, id, 1));
+    made(ask(CALL_BEGIN, 3, 0));
+    made(ask_receive(3, hex("65 09 48 01 07 49 04 00 00 00 00")));
 }
 
 static void dialogues_1(void) { active(0); }
-static void dialogues_64(void) { active(0); copies(64); }
-static void dialogues_128(void) { active(0); copies(128); }
-static void invocations_8(void) { active(8); copies(128); }
+static void dialogues_64(void) { active(0); copy_place(0, 1, 63); }
+static void dialogues_128(void) { active(0); copy_place(0, 1, 127); }
+static void invocations_8(void) { active(8); copy_place(0, 1, 127); }
 
 static void waiting_results(void)
 {
     active(0);
     for (int n = 0; n < 48; n++)
-        need(request(ask_id(CALL_RESULT_LAST, 3, 0, n)), TCAP_DONE);
-    copies(128);
+        made(ask_id(CALL_RESULT_LAST, 3, 0, n));
+    copy_place(0, 1, 127);
 }
 
 static void waiting_invoke(struct octets parameter)
 {
     active(0);
-    need(request(with(ask_invoke(3, 0, 1, 1), hex("02 01 3B"), parameter)), TCAP_DONE);
-    copies(128);
+    made(with(ask_invoke(3, 0, 1, 1), hex("02 01 3B"), parameter));
+    copy_place(0, 1, 127);
 }
 
 static void waiting_long(void) { waiting_invoke(primitive(231)); }
@@ -87,11 +68,11 @@ static void waiting_rejects(void)
 {
     active(0);
     for (int n = 0; n < 8; n++)
-        need(request(ask_receive(3, hex("65 0D 48 01 07 49 04 00 00 00 00 6C 02 A9 00"))), TCAP_DONE);
-    copies(128);
+        made(ask_receive(3, hex("65 0D 48 01 07 49 04 00 00 00 00 6C 02 A9 00")));
+    copy_place(0, 1, 127);
 }
 
-/* ---- WORK ----------------------------------------------------------------------------------------------------------------------------- */
+/* ---- WORK ---------------------------------------------------------------------------------------------------------------------------- */
 
 static void nothing(void) { }
 

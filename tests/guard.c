@@ -9,7 +9,7 @@
 #include <sys/mman.h>
 #include <unistd.h>
 
-/* ---- OCTET STRINGS ---------------------------------------------------------------------------------------------------------------- */
+/* ---- OCTET STRINGS ------------------------------------------------------------------------------------------------------------------- */
 
 const struct octets none;
 
@@ -77,7 +77,7 @@ struct octets nested(size_t depth, unsigned tag)
     return o;
 }
 
-/* ---- REQUESTS --------------------------------------------------------------------------------------------------------------------- */
+/* ---- REQUESTS ------------------------------------------------------------------------------------------------------------------------ */
 
 const char *const call_names[CALLS] = {
     "fresh", "open", "invoke", "invoke_linked", "result_last", "result_not_last", "error", "reject", "cancel", "begin", "continue",
@@ -166,6 +166,8 @@ int may_answer(enum call call, uint32_t answer)
     return answer <= TCAP_WRONG_SHARES && memchr(may.octet, (int)answer, may.count) != NULL;
 }
 
+uint8_t the_table[TCAP_TABLE_OCTETS];
+
 #define TABLE l->table, r->table_octets
 #define ROWS l->rows, r->rows_octets
 #define SPACE l->space, r->space_octets
@@ -200,7 +202,26 @@ struct tcap_reply make_call(const struct request *r, const struct lent *l)
     }
 }
 
-/* ---- CHECKS ----------------------------------------------------------------------------------------------------------------------- */
+void made(struct request r)
+{
+    static uint8_t rows[TCAP_ROWS_OCTETS], space[TCAP_SPACE_OCTETS];
+    const struct lent l = { the_table, rows, space, r.first.octet, r.second.octet };
+    uint32_t answer = make_call(&r, &l).answer;
+    if (answer != TCAP_DONE) {
+        fprintf(stderr, "%s is answered %u\n", call_names[r.call], answer);
+        exit(1);
+    }
+}
+
+void copy_place(size_t from, size_t first, size_t last)
+{
+    for (size_t p = first; p <= last; p++) {
+        memcpy(the_table + PLACES_AT + p * PLACE_OCTETS, the_table + PLACES_AT + from * PLACE_OCTETS, PLACE_OCTETS);
+        the_table[p / 8] = (uint8_t)(the_table[p / 8] & ~(1u << p % 8));
+    }
+}
+
+/* ---- CHECKS -------------------------------------------------------------------------------------------------------------------------- */
 
 unsigned checks_passed, checks_failed;
 static const char *at_file = "?";
@@ -227,7 +248,7 @@ void check(int holds, const char *what, ...)
     printf("\n");
 }
 
-/* ---- CALLS BETWEEN GUARD PAGES ------------------------------------------------------------------------------------------------------ */
+/* ---- CALLS BETWEEN GUARD PAGES ------------------------------------------------------------------------------------------------------- */
 
 /* Pages between two that nobody may touch; a part of them that touches one is lent. */
 struct region {
@@ -241,7 +262,6 @@ enum { TABLE_REGION, ROWS_REGION, SPACE_REGION, FIRST_REGION, SECOND_REGION, REG
 static struct region regions[REGIONS] = { { 9, 0, 0, 0 }, { 2, 0, 0, 0 }, { 1, 0, 0, 0 }, { 1, 0, 0, 0 }, { 1, 0, 0, 0 } };
 static size_t page;
 static enum flush flush_side;
-uint8_t the_table[TCAP_TABLE_OCTETS];
 unsigned long answered[CALLS][TCAP_WRONG_SHARES + 1];
 
 static void faulted(int signal)

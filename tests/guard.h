@@ -7,7 +7,7 @@
 
 #include "tcap.h"
 
-/* ---- OCTET STRINGS, handed on by value ------------------------------------------------------------------------------------------ */
+/* ---- OCTET STRINGS, handed on by value ----------------------------------------------------------------------------------------------- */
 
 #define OCTETS_MOST 1024
 
@@ -26,7 +26,7 @@ struct octets element(unsigned tag, struct octets contents);      /* with a defi
 struct octets primitive(size_t octets);                           /* an element 04 of so many octets in all */
 struct octets nested(size_t depth, unsigned tag);                 /* so many constructors, one in another */
 
-/* ---- A CALL AS A VALUE ----------------------------------------------------------------------------------------------------------- */
+/* ---- A CALL AS A VALUE --------------------------------------------------------------------------------------------------------------- */
 
 enum call {
     CALL_FRESH, CALL_OPEN, CALL_INVOKE, CALL_INVOKE_LINKED, CALL_RESULT_LAST, CALL_RESULT_NOT_LAST, CALL_ERROR, CALL_REJECT,
@@ -67,7 +67,20 @@ struct lent {
 
 struct tcap_reply make_call(const struct request *r, const struct lent *l);
 
-/* ---- CALLS BETWEEN GUARD PAGES --------------------------------------------------------------------------------------------------- */
+extern uint8_t the_table[TCAP_TABLE_OCTETS];                      /* handed to every call; what a call left there is handed on */
+
+/* ---- TABLES TO WORK ON ---------------------------------------------------------------------------------------------------------------- */
+
+/* docs/TABLE.md */
+#define PLACES_AT 48
+#define PLACE_OCTETS 284
+
+#define PLACE(place) ((uint32_t)(place) << 24)                    /* the dialogue in this place, turn 0 */
+
+void made(struct request r);                                      /* the call on the_table; ends the program unless it is done */
+void copy_place(size_t from, size_t first, size_t last);          /* makes these places as that one is, without the calls */
+
+/* ---- CALLS BETWEEN GUARD PAGES ------------------------------------------------------------------------------------------------------- */
 
 enum flush { FLUSH_UPPER, FLUSH_LOWER };                          /* which guard page the spaces touch */
 
@@ -77,7 +90,6 @@ struct outcome {
     uint8_t rows[TCAP_ROWS_OCTETS];
 };
 
-extern uint8_t the_table[TCAP_TABLE_OCTETS];                      /* handed to every call; what a call left there is handed on */
 extern unsigned checks_passed, checks_failed;
 extern unsigned long answered[CALLS][TCAP_WRONG_SHARES + 1];      /* how often each call gave each answer */
 
@@ -86,7 +98,7 @@ void guard_flush(enum flush side);
 const struct outcome *play(struct request r);                     /* makes the call; lasts until the next one */
 struct tcap_span play_parameter(struct octets message, size_t start, size_t length);
 
-/* ---- CHECKS ---------------------------------------------------------------------------------------------------------------------- */
+/* ---- CHECKS -------------------------------------------------------------------------------------------------------------------------- */
 
 void check(int holds, const char *what, ...);                     /* printf; says where by the last AT */
 void at(const char *file, int line);

@@ -8,9 +8,8 @@
 #include <string.h>
 
 #define OPERATION hex("02 01 3B")
-#define PLACE(place) ((uint32_t)(place) << 24)
 
-/* ---- TABLES AND DIALOGUES TO START FROM -------------------------------------------------------------------------------------------- */
+/* ---- TABLES AND DIALOGUES TO START FROM ---------------------------------------------------------------------------------------------- */
 
 /* Guarantees of 4 and limits of 64. */
 static void start(void)
@@ -87,7 +86,7 @@ static void four_states(void)
     brings(15, PLACE(3), "A2 03 02 01 06");
 }
 
-/* ---- WHAT ALL CALLS ON A TABLE REFUSE ----------------------------------------------------------------------------------------------- */
+/* ---- WHAT ALL CALLS ON A TABLE REFUSE ------------------------------------------------------------------------------------------------ */
 
 /* A request of this call that four_states() takes. */
 static struct request sound(enum call call)
@@ -211,7 +210,7 @@ static void answer_5(void)
     }
 }
 
-/* ---- STATES ---------------------------------------------------------------------------------------------------------------------------- */
+/* ---- STATES -------------------------------------------------------------------------------------------------------------------------- */
 
 /* What each call answers in Open, Sent, Received and Active, on the invocations of four_states(). */
 static void answer_6(void)
@@ -303,7 +302,7 @@ static void turns_go_round(void)
     OPENS(0, ask(CALL_OPEN, 3, 0));
 }
 
-/* ---- REQUESTS ON COMPONENTS -------------------------------------------------------------------------------------------------------------- */
+/* ---- REQUESTS ON COMPONENTS ---------------------------------------------------------------------------------------------------------- */
 
 static void answer_8_classes(void)
 {
@@ -401,7 +400,7 @@ static void answer_10(void)
     ANSWERS(TCAP_WRONG_CODE, ask_invoke(3, d, -128, 5));
 }
 
-/* ---- OCTETS GIVEN ----------------------------------------------------------------------------------------------------------------------------- */
+/* ---- OCTETS GIVEN -------------------------------------------------------------------------------------------------------------------- */
 
 static const char *const codes[] = { "02 01 3B", "02 04 01 02 03 04", "06 01 80", "06 03 2A 03 04", NULL };
 static const char *const no_codes[] = {
@@ -501,7 +500,7 @@ static void answer_12_reject_and_portion(void)
     answers_sound(TCAP_TOO_LONG, with(ask(CALL_ABORT, 15, PLACE(0)), element(0x6B, primitive(400)), none));
 }
 
-/* ---- A FRESH TABLE ---------------------------------------------------------------------------------------------------------------------------------- */
+/* ---- A FRESH TABLE ------------------------------------------------------------------------------------------------------------------- */
 
 static void fresh_sizes(void)
 {
@@ -545,7 +544,7 @@ static void fresh_on_any_octets(void)
             CHECK(0, "octet %zu of a fresh table is %u", i, the_table[i]);
 }
 
-/* ---- 01's CASES P1 TO P8 ----------------------------------------------------------------------------------------------------------------------- */
+/* ---- 01's CASES P1 TO P8 ------------------------------------------------------------------------------------------------------------- */
 
 static void p1_to_p5(void)
 {
@@ -570,7 +569,7 @@ static void p6_to_p8(void)
     WRITES("67 06 49 01 07 4A 01 02", ask_receive(3, hex("62 04 48 01 07")));
 }
 
-/* ---- MESSAGES WRITTEN ----------------------------------------------------------------------------------------------------------------------------- */
+/* ---- MESSAGES WRITTEN ---------------------------------------------------------------------------------------------------------------- */
 
 static void messages_of_every_kind(void)
 {
@@ -622,7 +621,8 @@ static void the_longest_message(void)
     SHOWS("2 0 256 256 65535 0 0 1;13 0 256 256 2 0 0 0;", ask_receive(3, hex("62 08 48 04 01 02 03 04 6C 00")));
     ANSWERS(TCAP_DONE, with(ask_invoke(3, 0, 1, 1), OPERATION, parameter));
     AT;
-    expect(TCAP_DONE, 0, element(0x65, join(hex("48 04 00 00 00 00 49 04 01 02 03 04"), element(0x6C, list))), "", ask(CALL_CONTINUE, 3, 0));
+    expect(TCAP_DONE, 0, element(0x65, join(hex("48 04 00 00 00 00 49 04 01 02 03 04"), element(0x6C, list))), "",
+           ask(CALL_CONTINUE, 3, 0));
     WRITES("65 15 48 04 00 00 00 00 49 04 01 02 03 04 6C 07 A4 05 05 00 80 01 02", ask(CALL_CONTINUE, 3, 0));
     WRITES("65 0C 48 04 00 00 00 00 49 04 01 02 03 04", ask(CALL_CONTINUE, 3, 0));
 }
@@ -643,7 +643,7 @@ static void rejects_that_fit(void)
     }
 }
 
-/* ---- MESSAGES RECEIVED ----------------------------------------------------------------------------------------------------------------------------- */
+/* ---- MESSAGES RECEIVED --------------------------------------------------------------------------------------------------------------- */
 
 static void rows_of_a_message(void)
 {
@@ -753,7 +753,7 @@ static void the_most_rows(void)
     expect(TCAP_MESSAGE_SIZE, 0, none, "", ask_receive(3, join(element(0x61, element(0x6C, list)), one(0))));
 }
 
-/* ---- TIMER EVENTS -------------------------------------------------------------------------------------------------------------------------------- */
+/* ---- TIMER EVENTS -------------------------------------------------------------------------------------------------------------------- */
 
 static void timers(void)
 {
@@ -770,7 +770,7 @@ static void timers(void)
     SHOWS("15 67108864 255 256 65535 0 0 0;", ask_id(CALL_TIMEOUT, 15, d, 127));
 }
 
-/* ---- THE PARAMETER ------------------------------------------------------------------------------------------------------------------------------- */
+/* ---- THE PARAMETER ------------------------------------------------------------------------------------------------------------------- */
 
 static void parameter_is(struct octets message, size_t start_, size_t length, size_t at_, size_t octets)
 {
@@ -807,7 +807,7 @@ static void every_answer(void)
                 CHECK(answered[call][answer] > 0, "%s was never answered %u", call_names[call], answer);
 }
 
-/* ---- THE LIST ------------------------------------------------------------------------------------------------------------------------------------- */
+/* ---- THE LIST ------------------------------------------------------------------------------------------------------------------------ */
 
 #define T(test) { #test, test }
 static const struct { const char *name; void (*run)(void); } tests[] = {

@@ -15,26 +15,11 @@
 #include <stdlib.h>
 #include <string.h>
 
-/* docs/TABLE.md */
-#define PLACES_AT 48
-#define PLACE_OCTETS 284
+/* of a place, docs/TABLE.md */
 #define WAITING_LENGTH 10
 #define WAITING_AT 44
 
-#define PLACE(place) ((uint32_t)(place) << 24)
-
-static uint8_t rows[TCAP_ROWS_OCTETS], space[TCAP_SPACE_OCTETS];
 static unsigned long tried;
-
-static void made(struct request r)
-{
-    struct lent l = { the_table, rows, space, r.first.octet, r.second.octet };
-    uint32_t answer = make_call(&r, &l).answer;
-    if (answer != TCAP_DONE) {
-        fprintf(stderr, "judge: %s is answered %u\n", call_names[r.call], answer);
-        exit(1);
-    }
-}
 
 static void receives(unsigned place, const char *list)
 {
@@ -42,7 +27,7 @@ static void receives(unsigned place, const char *list)
     made(ask_receive(1, element(0x65, join(ids, *list ? element(0x6C, hex(list)) : none))));
 }
 
-/* ---- TABLES ---------------------------------------------------------------------------------------------------------------------------- */
+/* ---- TABLES -------------------------------------------------------------------------------------------------------------------------- */
 
 static void empty(void)
 {
@@ -102,7 +87,7 @@ static const struct { const char *name; void (*make)(void); unsigned places[6]; 
     { "full", full, { 0, 64, 127, 128 } },
 };
 
-/* ---- THE SAMPLE -------------------------------------------------------------------------------------------------------------------------- */
+/* ---- THE SAMPLE ---------------------------------------------------------------------------------------------------------------------- */
 
 typedef void visit(size_t first, size_t last, int all);
 

@@ -10,14 +10,12 @@
 #include <stdlib.h>
 #include <string.h>
 
-/* docs/TABLE.md */
-#define PLACES_AT 48
-#define PLACE_OCTETS 284
+/* of a place, docs/TABLE.md */
 #define STATE 3
 #define SERVICE 4
 #define INVOCATIONS_AT 12
 
-/* ---- NUMBERS --------------------------------------------------------------------------------------------------------------------------- */
+/* ---- NUMBERS ------------------------------------------------------------------------------------------------------------------------- */
 
 static uint64_t seed;
 
@@ -32,7 +30,7 @@ static uint32_t random_number(void)
 static uint32_t below(uint32_t n) { return random_number() % n; }
 static int once_in(uint32_t n) { return below(n) == 0; }
 
-/* ---- OCTETS ---------------------------------------------------------------------------------------------------------------------------- */
+/* ---- OCTETS -------------------------------------------------------------------------------------------------------------------------- */
 
 static struct octets random_octets(size_t count)
 {
@@ -60,7 +58,9 @@ static struct octets random_element(int levels)
 
 static struct octets random_code(void)
 {
-    return once_in(20) ? random_octets(below(4)) : once_in(2) ? element(0x02, random_octets(1 + below(4))) : element(0x06, random_octets(1 + below(6)));
+    if (once_in(20))
+        return random_octets(below(4));
+    return once_in(2) ? element(0x02, random_octets(1 + below(4))) : element(0x06, random_octets(1 + below(6)));
 }
 
 static struct octets random_parameter(void)
@@ -89,7 +89,7 @@ static struct octets damaged(struct octets o)
     }
 }
 
-/* ---- THE TWO TABLES AND WHAT THEY SAY TO EACH OTHER ---------------------------------------------------------------------------------------- */
+/* ---- THE TWO TABLES AND WHAT THEY SAY TO EACH OTHER ---------------------------------------------------------------------------------- */
 
 #define WAITING 16
 
@@ -166,7 +166,7 @@ static struct octets random_message(const uint8_t *place, uint32_t dialogue)
     return once_in(4) ? indefinite(type, contents) : element(type, contents);
 }
 
-/* ---- CALLS -------------------------------------------------------------------------------------------------------------------------------- */
+/* ---- CALLS --------------------------------------------------------------------------------------------------------------------------- */
 
 static struct request random_receive(struct peer *me, const uint8_t *place, uint32_t service, uint32_t dialogue)
 {
@@ -208,7 +208,9 @@ static enum call random_call(void)
         return CALL_FRESH;
     if (once_in(4))
         return (enum call)(CALL_OPEN + below(CALLS - CALL_OPEN));
-    return once_in(3) ? CALL_RECEIVE : once_in(5) ? CALL_OPEN : once_in(2) ? CALL_INVOKE : (enum call)(CALL_INVOKE + below(CALL_END - CALL_INVOKE));
+    if (once_in(2))
+        return (enum call)(CALL_INVOKE + below(CALL_END - CALL_INVOKE));
+    return once_in(5) ? CALL_OPEN : once_in(2) ? CALL_INVOKE : CALL_RECEIVE;
 }
 
 static struct request random_request(struct peer *me)
@@ -242,7 +244,7 @@ static size_t random_size(size_t right, size_t most)
     return once_in(2) ? right : once_in(2) ? right + below(3) - 1 : below((uint32_t)most + 1);
 }
 
-/* ---- TABLES ---------------------------------------------------------------------------------------------------------------------------------- */
+/* ---- TABLES -------------------------------------------------------------------------------------------------------------------------- */
 
 enum kind { SOUND, ONE_OCTET, RANDOM };
 
@@ -290,8 +292,8 @@ static void one_call(unsigned long n)
     o = play(r);
     count_outcome(o);
     if (r.call == CALL_RECEIVE && o->reply.rows > 0) {
-        size_t row = below(o->reply.rows);
-        play_parameter(r.first, tcap_row(o->rows, row, TCAP_ROW_START) + (once_in(4) ? below(3) : 0), tcap_row(o->rows, row, TCAP_ROW_LENGTH));
+        size_t row = below(o->reply.rows), beside = once_in(4) ? below(3) : 0;
+        play_parameter(r.first, tcap_row(o->rows, row, TCAP_ROW_START) + beside, tcap_row(o->rows, row, TCAP_ROW_LENGTH));
     }
     if (kind != SOUND)
         return;

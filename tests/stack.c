@@ -14,9 +14,6 @@
 
 #define STACK_OCTETS 262144
 #define PAINT 0x5A
-/* docs/TABLE.md */
-#define PLACES_AT 48
-#define PLACE_OCTETS 284
 
 static uint8_t stack[STACK_OCTETS], rows[TCAP_ROWS_OCTETS], space[TCAP_SPACE_OCTETS];
 static struct request asked;
@@ -52,7 +49,7 @@ static size_t depth(void (*on_own_stack)(void))
     return sizeof stack - clean;
 }
 
-/* ---- OCTETS THAT NEST DEEP -------------------------------------------------------------------------------------------------------------- */
+/* ---- OCTETS THAT NEST DEEP ----------------------------------------------------------------------------------------------------------- */
 
 static struct octets indefinite(size_t levels, unsigned tag, struct octets inner)
 {
@@ -83,16 +80,7 @@ static struct octets message(enum form form, unsigned type, size_t levels)
     return indefinite(1, type, join(ids, join(portion, type == 0x67 ? none : list)));
 }
 
-/* ---- TABLES --------------------------------------------------------------------------------------------------------------------------------- */
-
-static void made(struct request r)
-{
-    struct lent l = { the_table, rows, space, r.first.octet, r.second.octet };
-    if (make_call(&r, &l).answer != TCAP_DONE) {
-        fprintf(stderr, "stack: %s is refused\n", call_names[r.call]);
-        exit(1);
-    }
-}
+/* ---- TABLES -------------------------------------------------------------------------------------------------------------------------- */
 
 /* Places 0 to 3 in Open, Sent, Received and Active, each with a waiting component that nests to depth 16; 3 has the invocations 5 in
    Sent and 6 in Wait. Then, in a full table, 124 more as place 3. */
@@ -102,22 +90,20 @@ static void table(enum form form, int full)
     made(ask_fresh(repeat(16, one(0)), repeat(16, one(128))));
     for (unsigned place = 0; place < 2; place++)
         made(ask(CALL_OPEN, 3, 0));
-    made(ask(CALL_BEGIN, 3, 1u << 24));
+    made(ask(CALL_BEGIN, 3, PLACE(1)));
     made(ask_receive(3, hex("62 03 48 01 07")));
     made(ask(CALL_OPEN, 3, 0));
-    made(ask_invoke(3, 3u << 24, 5, 1));
-    made(ask_invoke(3, 3u << 24, 6, 1));
-    made(ask(CALL_BEGIN, 3, 3u << 24));
+    made(ask_invoke(3, PLACE(3), 5, 1));
+    made(ask_invoke(3, PLACE(3), 6, 1));
+    made(ask(CALL_BEGIN, 3, PLACE(3)));
     made(ask_receive(3, hex("65 10 48 01 07 49 04 03 00 00 00 6C 05 A2 03 02 01 06")));
     for (unsigned place = 0; place < 4; place++)
-        made(with(ask_invoke(3, place << 24, 1, 4), hex("02 01 3B"), deep));
-    for (size_t p = 4; full && p < TCAP_PLACES; p++) {
-        memcpy(the_table + PLACES_AT + p * PLACE_OCTETS, the_table + PLACES_AT + 3 * PLACE_OCTETS, PLACE_OCTETS);
-        the_table[p / 8] = (uint8_t)(the_table[p / 8] & ~(1u << p % 8));
-    }
+        made(with(ask_invoke(3, PLACE(place), 1, 4), hex("02 01 3B"), deep));
+    if (full)
+        copy_place(3, 4, TCAP_PLACES - 1);
 }
 
-/* ---- EACH CALL ------------------------------------------------------------------------------------------------------------------------------ */
+/* ---- EACH CALL ----------------------------------------------------------------------------------------------------------------------- */
 
 static uint8_t sound[TCAP_TABLE_OCTETS];
 static size_t deepest;
@@ -136,7 +122,8 @@ static void measure(struct request r)
 static void measure_call(enum call call, enum form form, unsigned place)
 {
     static const unsigned types[] = { 0x61, 0x62, 0x64, 0x65, 0x67 };
-    struct request r = ask_id(call, 3, place << 24, call == CALL_INVOKE || call == CALL_INVOKE_LINKED ? 9 : call == CALL_REJECT_TIMEOUT ? 6 : 5);
+    int id = call == CALL_INVOKE || call == CALL_INVOKE_LINKED ? 9 : call == CALL_REJECT_TIMEOUT ? 6 : 5;
+    struct request r = ask_id(call, 3, PLACE(place), id);
     r.number = call == CALL_REJECT ? (uint32_t)TCAP_DUPLICATE_INVOKE_ID : 1;
     for (size_t levels = 13; levels <= 16; levels++) {
         if (call == CALL_FRESH)
