@@ -170,6 +170,6 @@ int main(int argc, char **argv)
         sample(tables[i].places, as_hex ? name_sample : list);
     }
     if (!as_hex)
-        printf("%lu values tried\n", tried);
+        printf("judge: %lu values tried\n", tried);
     return 0;
 }

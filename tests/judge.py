@@ -223,7 +223,7 @@ def main():
             table = bytes.fromhex(words[0])
             if not sound(table):
                 sys.exit("judge.py: the table itself is not sound")
-    print(f"{tried} values tried")
+    print(f"judge: {tried} values tried")
 
 
 if __name__ == "__main__":
