@@ -130,6 +130,12 @@ static inline uint32_t tcap_row(const uint8_t *rows, size_t row, enum tcap_row_f
     return (uint32_t)p[0] | (uint32_t)p[1] << 8 | (uint32_t)p[2] << 16 | (uint32_t)p[3] << 24;
 }
 
+/* The invoke or linked ID of a row, from a number that isn't TCAP_NO_ID: tcap_id(tcap_row(rows, 1, TCAP_ROW_INVOKE_ID)). */
+static inline int8_t tcap_id(uint32_t number)
+{
+    return (int8_t)((int)number - 128);
+}
+
 /* ---- WHAT EVERY CALL RETURNS --------------------------------------------------------------------------------------------------- */
 
 struct tcap_reply {
