@@ -62,6 +62,15 @@ static void print_unless(uint32_t none, const char *label, uint32_t number)
         printf(", %s %u", label, (unsigned)number);
 }
 
+/* The operation of an INVOKE stands behind the component's tag and length, the invoke ID and the linked ID; the engine has checked that. */
+static void print_operation(const uint8_t *row, const uint8_t *message)
+{
+    size_t at = tcap_row(row, 0, TCAP_ROW_START) + 1;
+    at += message[at] == 0x81 ? 2 : message[at] == 0x82 ? 3 : 1;
+    at += tcap_row(row, 0, TCAP_ROW_LINKED_ID) == TCAP_NO_ID ? 3 : 6;
+    print_octets("its operation", message + at, 2u + message[at + 1]);
+}
+
 /* The row's octets in the message: of a component its parameter is shown, of a dialogue row the dialogue portion. */
 static void print_part(const uint8_t *row, const uint8_t *message, size_t octets)
 {
@@ -82,6 +91,8 @@ static void print_row(const char *name, const uint8_t *row, const uint8_t *messa
     print_unless(TCAP_NO_PROBLEM, kind == TCAP_P_ABORT ? "cause" : "problem", tcap_row(row, 0, TCAP_ROW_PROBLEM));
     print_unless(0, "component rows after it:", tcap_row(row, 0, TCAP_ROW_FOLLOWING));
     printf("\n");
+    if (kind == TCAP_INVOKE)
+        print_operation(row, message);
     print_part(row, message, octets);
 }
 
