@@ -23,7 +23,7 @@ use Rattle.facts.specs.Fine.{Fine, Octets}
 use Rattle.facts.specs.Whole.{view-encode}
 use Rattle.facts.specs.Ready.{encode-stands}
 use Rattle.kept.specs.Leaves.{whether-lt, whether-b}
-use Rattle.kept.specs.Counted.{isBegun, isEnded, openedBy, endsBy, serviceOf, begunBy, endedBy}
+use Rattle.paper.specs.Counting.{isBegun, isEnded, openedBy, endsBy, serviceOf, begunBy, endedBy}
 use Rattle.kept.specs.Steps.{WellFormed, Left, step-left, step-counted}
 use Rattle.demands.specs.Rows.{sumKinds, kinds-back, noRow}
 use Rattle.demands.specs.Fits.{Fit, step-fit}

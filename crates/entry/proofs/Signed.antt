@@ -12,7 +12,7 @@ use mir.Syntax.{w8, w16}
 use mir.Val.{Fits, SFits, toZ, ofZ}
 use mir.Facts.{sfits-widen, toZ-ofZ}
 use Rattle.laws.specs.If.{true-false}
-use Rattle.entry.specs.Octet.{octetOf}
+use Rattle.paper.specs.Sizes.{octetOf}
 
 module _ (z : ℤ) (f : SFits w8 z) where
   pub as-it-is : toZ w8 (ofZ w8 z) ≡ z

@@ -1,4 +1,3 @@
-pub mod Octet
 pub mod Replies
 pub mod Prologue
 pub mod Ends

@@ -1,6 +1,8 @@
 // What every call begins with and ends in: the numbers 1, 2, 3 and 5 in this order, and the reply.
+use paper::GUARANTEES;
+use paper::LIMITS;
 ghost use mathlib.Core.Path.{_≡_};
-ghost use Rattle.entry.specs.Octet.{octetOf};
+ghost use Rattle.paper.specs.Sizes.{octetOf};
 ghost use Rattle.entry.specs.Replies.{reply};
 ghost use Rattle.entry.specs.Prologue.{Enters, Meets};
 
@@ -79,8 +81,8 @@ pub fn enter(t: &[u8], service: u32) -> Entered
     let i = service as usize;
     let counts = c.counts;
     let count = wide(counts[i]);
-    let guarantee = wide(t[16 + i]);
-    let limit = wide(t[32 + i]);
+    let guarantee = wide(t[GUARANTEES + i]);
+    let limit = wide(t[LIMITS + i]);
     let may = shares::gives_place(count, guarantee, limit, c.unused, c.free);
     return Entered {
         answer: 0,

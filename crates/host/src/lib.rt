@@ -4,7 +4,10 @@ ghost use mathlib.Core.Path.{_≡_};
 ghost use mathlib.Core.List.{[]};
 ghost use Prim.Native.Nat.{ℕ, _+_, _≤_};
 ghost use lib.ListN.{length};
-ghost use Rattle.paper.specs.Calls.Call.{Open};
+ghost use Rattle.paper.specs.Sizes.{octetOf};
+ghost use Rattle.paper.specs.Components.{lastTag, notLastTag, noID};
+ghost use Rattle.paper.specs.Dialogues.Request.{Invoke, Result, Error, UserReject, Cancel, Begin, Continue, End, Prearranged, Abort, Unidirectional, Timeout, RejectTimeout, NoReaction};
+ghost use Rattle.paper.specs.Calls.Call.{Open, OnDialogue, Receive};
 ghost use Rattle.paper.specs.Layout.{tableSize};
 ghost use Rattle.paper.specs.Outcome.{Gives, outcome, freshOutcome};
 ghost use Rattle.paper.specs.Readers.{parameterAt};
@@ -28,6 +31,240 @@ pub extern "C" fn tcap_open(table: &mut [u8], service: u32) -> Reply
     ensures { λ r. ⌜ Gives (outcome (record { table = now (table .entry); rows = []; space = [] }) (Open service)) (r .answer) (r .rows) (r .length) (r .dialogue) (record { table = now (table .exit); rows = []; space = [] }) ⌝ }
 {
     opening::open(table, service)
+}
+
+#[no_mangle]
+pub extern "C" fn tcap_invoke(
+    table: &mut [u8],
+    service: u32,
+    dialogue: u32,
+    id: i8,
+    class: u32,
+    operation: &[u8],
+    parameter: &[u8],
+) -> Reply
+    ensures { λ r. ⌜ Gives (outcome (record { table = now (table .entry); rows = []; space = [] }) (OnDialogue service dialogue (Invoke (octetOf id) noID class (now (operation .entry)) (now (parameter .entry))))) (r .answer) (r .rows) (r .length) (r .dialogue) (record { table = now (table .exit); rows = []; space = [] }) ⌝ }
+{
+    let octet = entry::octet_of(id);
+    passing::invoke(
+        table,
+        service,
+        dialogue,
+        octet,
+        256,
+        class,
+        operation,
+        parameter,
+    )
+}
+
+#[no_mangle]
+pub extern "C" fn tcap_invoke_linked(
+    table: &mut [u8],
+    service: u32,
+    dialogue: u32,
+    id: i8,
+    linked: i8,
+    class: u32,
+    operation: &[u8],
+    parameter: &[u8],
+) -> Reply
+    ensures { λ r. ⌜ Gives (outcome (record { table = now (table .entry); rows = []; space = [] }) (OnDialogue service dialogue (Invoke (octetOf id) (octetOf linked) class (now (operation .entry)) (now (parameter .entry))))) (r .answer) (r .rows) (r .length) (r .dialogue) (record { table = now (table .exit); rows = []; space = [] }) ⌝ }
+{
+    let octet = entry::octet_of(id);
+    let other = entry::octet_of(linked);
+    passing::invoke(
+        table,
+        service,
+        dialogue,
+        octet,
+        other as u32,
+        class,
+        operation,
+        parameter,
+    )
+}
+
+#[no_mangle]
+pub extern "C" fn tcap_result_last(
+    table: &mut [u8],
+    service: u32,
+    dialogue: u32,
+    id: i8,
+    operation: &[u8],
+    parameter: &[u8],
+) -> Reply
+    ensures { λ r. ⌜ Gives (outcome (record { table = now (table .entry); rows = []; space = [] }) (OnDialogue service dialogue (Result lastTag (octetOf id) (now (operation .entry)) (now (parameter .entry))))) (r .answer) (r .rows) (r .length) (r .dialogue) (record { table = now (table .exit); rows = []; space = [] }) ⌝ }
+{
+    let octet = entry::octet_of(id);
+    passing::result(table, service, dialogue, 162, octet, operation, parameter)
+}
+
+#[no_mangle]
+pub extern "C" fn tcap_result_not_last(
+    table: &mut [u8],
+    service: u32,
+    dialogue: u32,
+    id: i8,
+    operation: &[u8],
+    parameter: &[u8],
+) -> Reply
+    ensures { λ r. ⌜ Gives (outcome (record { table = now (table .entry); rows = []; space = [] }) (OnDialogue service dialogue (Result notLastTag (octetOf id) (now (operation .entry)) (now (parameter .entry))))) (r .answer) (r .rows) (r .length) (r .dialogue) (record { table = now (table .exit); rows = []; space = [] }) ⌝ }
+{
+    let octet = entry::octet_of(id);
+    passing::result(table, service, dialogue, 167, octet, operation, parameter)
+}
+
+#[no_mangle]
+pub extern "C" fn tcap_error(
+    table: &mut [u8],
+    service: u32,
+    dialogue: u32,
+    id: i8,
+    error: &[u8],
+    parameter: &[u8],
+) -> Reply
+    ensures { λ r. ⌜ Gives (outcome (record { table = now (table .entry); rows = []; space = [] }) (OnDialogue service dialogue (Error (octetOf id) (now (error .entry)) (now (parameter .entry))))) (r .answer) (r .rows) (r .length) (r .dialogue) (record { table = now (table .exit); rows = []; space = [] }) ⌝ }
+{
+    let octet = entry::octet_of(id);
+    passing::error(table, service, dialogue, octet, error, parameter)
+}
+
+#[no_mangle]
+pub extern "C" fn tcap_reject(
+    table: &mut [u8],
+    service: u32,
+    dialogue: u32,
+    id: i8,
+    problem: u32,
+) -> Reply
+    ensures { λ r. ⌜ Gives (outcome (record { table = now (table .entry); rows = []; space = [] }) (OnDialogue service dialogue (UserReject (octetOf id) problem))) (r .answer) (r .rows) (r .length) (r .dialogue) (record { table = now (table .exit); rows = []; space = [] }) ⌝ }
+{
+    let octet = entry::octet_of(id);
+    passing::reject(table, service, dialogue, octet, problem)
+}
+
+#[no_mangle]
+pub extern "C" fn tcap_cancel(table: &mut [u8], service: u32, dialogue: u32, id: i8) -> Reply
+    ensures { λ r. ⌜ Gives (outcome (record { table = now (table .entry); rows = []; space = [] }) (OnDialogue service dialogue (Cancel (octetOf id)))) (r .answer) (r .rows) (r .length) (r .dialogue) (record { table = now (table .exit); rows = []; space = [] }) ⌝ }
+{
+    let octet = entry::octet_of(id);
+    timing::cancel(table, service, dialogue, octet)
+}
+
+#[no_mangle]
+pub extern "C" fn tcap_begin(
+    table: &mut [u8],
+    service: u32,
+    dialogue: u32,
+    space: &mut [u8],
+) -> Reply
+    ensures { λ r. ⌜ Gives (outcome (record { table = now (table .entry); rows = []; space = now (space .entry) }) (OnDialogue service dialogue Begin)) (r .answer) (r .rows) (r .length) (r .dialogue) (record { table = now (table .exit); rows = []; space = now (space .exit) }) ⌝ }
+{
+    sending::send_begin(table, service, dialogue, space)
+}
+
+#[no_mangle]
+pub extern "C" fn tcap_continue(
+    table: &mut [u8],
+    service: u32,
+    dialogue: u32,
+    space: &mut [u8],
+) -> Reply
+    ensures { λ r. ⌜ Gives (outcome (record { table = now (table .entry); rows = []; space = now (space .entry) }) (OnDialogue service dialogue Continue)) (r .answer) (r .rows) (r .length) (r .dialogue) (record { table = now (table .exit); rows = []; space = now (space .exit) }) ⌝ }
+{
+    sending::send_continue(table, service, dialogue, space)
+}
+
+#[no_mangle]
+pub extern "C" fn tcap_end(table: &mut [u8], service: u32, dialogue: u32, space: &mut [u8]) -> Reply
+    ensures { λ r. ⌜ Gives (outcome (record { table = now (table .entry); rows = []; space = now (space .entry) }) (OnDialogue service dialogue End)) (r .answer) (r .rows) (r .length) (r .dialogue) (record { table = now (table .exit); rows = []; space = now (space .exit) }) ⌝ }
+{
+    sending::send_end(table, service, dialogue, space)
+}
+
+#[no_mangle]
+pub extern "C" fn tcap_end_prearranged(table: &mut [u8], service: u32, dialogue: u32) -> Reply
+    ensures { λ r. ⌜ Gives (outcome (record { table = now (table .entry); rows = []; space = [] }) (OnDialogue service dialogue Prearranged)) (r .answer) (r .rows) (r .length) (r .dialogue) (record { table = now (table .exit); rows = []; space = [] }) ⌝ }
+{
+    timing::end_prearranged(table, service, dialogue)
+}
+
+#[no_mangle]
+pub extern "C" fn tcap_abort(
+    table: &mut [u8],
+    service: u32,
+    dialogue: u32,
+    portion: &[u8],
+    space: &mut [u8],
+) -> Reply
+    ensures { λ r. ⌜ Gives (outcome (record { table = now (table .entry); rows = []; space = now (space .entry) }) (OnDialogue service dialogue (Abort (now (portion .entry))))) (r .answer) (r .rows) (r .length) (r .dialogue) (record { table = now (table .exit); rows = []; space = now (space .exit) }) ⌝ }
+{
+    sending::send_abort(table, service, dialogue, portion, space)
+}
+
+#[no_mangle]
+pub extern "C" fn tcap_unidirectional(
+    table: &mut [u8],
+    service: u32,
+    dialogue: u32,
+    space: &mut [u8],
+) -> Reply
+    ensures { λ r. ⌜ Gives (outcome (record { table = now (table .entry); rows = []; space = now (space .entry) }) (OnDialogue service dialogue Unidirectional)) (r .answer) (r .rows) (r .length) (r .dialogue) (record { table = now (table .exit); rows = []; space = now (space .exit) }) ⌝ }
+{
+    sending::send_unidirectional(table, service, dialogue, space)
+}
+
+#[no_mangle]
+pub extern "C" fn tcap_receive(
+    table: &mut [u8],
+    service: u32,
+    message: &[u8],
+    rows: &mut [u8],
+    space: &mut [u8],
+) -> Reply
+    ensures { λ r. ⌜ Gives (outcome (record { table = now (table .entry); rows = now (rows .entry); space = now (space .entry) }) (Receive service (now (message .entry)))) (r .answer) (r .rows) (r .length) (r .dialogue) (record { table = now (table .exit); rows = now (rows .exit); space = now (space .exit) }) ⌝ }
+{
+    incoming::receive(table, service, message, rows, space)
+}
+
+#[no_mangle]
+pub extern "C" fn tcap_timeout(
+    table: &mut [u8],
+    service: u32,
+    dialogue: u32,
+    id: i8,
+    rows: &mut [u8],
+) -> Reply
+    ensures { λ r. ⌜ Gives (outcome (record { table = now (table .entry); rows = now (rows .entry); space = [] }) (OnDialogue service dialogue (Timeout (octetOf id)))) (r .answer) (r .rows) (r .length) (r .dialogue) (record { table = now (table .exit); rows = now (rows .exit); space = [] }) ⌝ }
+{
+    let octet = entry::octet_of(id);
+    timing::timeout(table, service, dialogue, octet, rows)
+}
+
+#[no_mangle]
+pub extern "C" fn tcap_reject_timeout(
+    table: &mut [u8],
+    service: u32,
+    dialogue: u32,
+    id: i8,
+) -> Reply
+    ensures { λ r. ⌜ Gives (outcome (record { table = now (table .entry); rows = []; space = [] }) (OnDialogue service dialogue (RejectTimeout (octetOf id)))) (r .answer) (r .rows) (r .length) (r .dialogue) (record { table = now (table .exit); rows = []; space = [] }) ⌝ }
+{
+    let octet = entry::octet_of(id);
+    timing::reject_timeout(table, service, dialogue, octet)
+}
+
+#[no_mangle]
+pub extern "C" fn tcap_no_reaction(
+    table: &mut [u8],
+    service: u32,
+    dialogue: u32,
+    rows: &mut [u8],
+) -> Reply
+    ensures { λ r. ⌜ Gives (outcome (record { table = now (table .entry); rows = now (rows .entry); space = [] }) (OnDialogue service dialogue NoReaction)) (r .answer) (r .rows) (r .length) (r .dialogue) (record { table = now (table .exit); rows = now (rows .exit); space = [] }) ⌝ }
+{
+    timing::no_reaction(table, service, dialogue, rows)
 }
 
 // Where a component's parameter stands in the message; 0, 0 for none.

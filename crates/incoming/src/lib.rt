@@ -1,5 +1,7 @@
 // A received message (01, "A received message"), from the sizes lent to the reply.
 use entry::Reply;
+use paper::LEAST_ROWS;
+use paper::LEAST_SPACE;
 use receiving::Counted;
 ghost use mathlib.Core.Path.{_≡_};
 ghost use mathlib.Core.List.{[]};
@@ -23,10 +25,10 @@ pub fn receive(
 ) -> Reply
     ensures { λ r. ⌜ Gives (outcome (record { table = now (table .entry); rows = now (rows .entry); space = now (space .entry) }) (Receive service (now (message .entry)))) (r .answer) (r .rows) (r .length) (r .dialogue) (record { table = now (table .exit); rows = now (rows .exit); space = now (space .exit) }) ⌝ }
 {
-    if rows.len() < 4096 {
+    if rows.len() < LEAST_ROWS {
         return entry::refused(1);
     }
-    if space.len() < 272 {
+    if space.len() < LEAST_SPACE {
         return entry::refused(1);
     }
     let c = rules::check(table);

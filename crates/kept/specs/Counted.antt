@@ -1,4 +1,4 @@
--- COUNTED FOR DEMAND 3 (01, "A received message"): from the calls, their answers and rows alone, never from the table. Assumes nothing.
+-- WHICH ROWS ARE COUNTED for demand 3: those of a dialogue, by their kind; none of a component. Assumes nothing.
 use mathlib.Core.Path.{_≡_, refl, sym}
 use mathlib.Core.Bool.{Bool, true, false}
 use mathlib.Core.List.{List, [], _∷_}
@@ -6,70 +6,16 @@ use Prim.Native.Nat.{ℕ, zero, suc, _+_, _≤_}
 use native.Mathlib.Omega.{arith}
 use lib.Dec.{eqb}
 use borrow.Author.Tests.{eqb-true, eqb-false}
-use Rattle.laws.specs.If.{ifEq, eq, ne}
-use Rattle.laws.specs.Sums.{sumBy}
+use Rattle.laws.specs.If.{eq, ne}
 use Rattle.paper.specs.declared.Component.{Component}
 use Rattle.paper.specs.declared.Control.{Control}
 use Rattle.paper.specs.declared.Acted.{Acted}
 use Rattle.paper.specs.declared.Row.{Row}
 use Rattle.paper.specs.Components.{Item}
 use Rattle.paper.specs.Invocations.{rejected, answerKind, answersSent, answers, invokes, rejectKind, rejects, faultyReject, faults, act}
-use Rattle.paper.specs.Rows.{rowBegin, rowEnd, rowUserAbort, rowAbort, rowBy, componentRow, componentRows}
-use Rattle.paper.specs.Dialogues.{Request, Invoke, Result, Error, UserReject, Cancel, Begin, Continue, End, Prearranged, Abort, Unidirectional, Timeout, RejectTimeout, NoReaction}
-use Rattle.paper.specs.Calls.{Out, Call, Open, OnDialogue, Receive}
+use Rattle.paper.specs.Rows.{rowBy, componentRow, componentRows}
+use Rattle.paper.specs.Counting.{isBegun, isEnded, begunRows, endedRows}
 use Rattle.kept.specs.Leaves.{whether-eq, whether-lt, whether-b}
-
--- "a BEGIN row"; "a row 4, 5 or 6"
-unfoldable pub isBegun : Row → ℕ
-isBegun r = ifEq (r .kind) rowBegin 1 0
-
-unfoldable pub isEnded : Row → ℕ
-isEnded r = ifEq (r .kind) rowEnd 1 (ifEq (r .kind) rowUserAbort 1 (ifEq (r .kind) rowAbort 1 0))
-
-abbrev pub begunRows : List Row → ℕ
-begunRows rows = sumBy isBegun rows
-
-abbrev pub endedRows : List Row → ℕ
-endedRows rows = sumBy isEnded rows
-
--- "an end, user abort or Unidirectional request answered 0"
-abbrev pub endsBy : Request → ℕ → ℕ
-endsBy r (suc n) = 0
-endsBy (Invoke id linked class op par) zero = 0
-endsBy (Result tag id op par) zero = 0
-endsBy (Error id err par) zero = 0
-endsBy (UserReject id p) zero = 0
-endsBy (Cancel id) zero = 0
-endsBy Begin zero = 0
-endsBy Continue zero = 0
-endsBy End zero = 1
-endsBy Prearranged zero = 1
-endsBy (Abort portion) zero = 1
-endsBy Unidirectional zero = 1
-endsBy (Timeout id) zero = 0
-endsBy (RejectTimeout id) zero = 0
-endsBy NoReaction zero = 0
-
--- "an open answered 0"
-abbrev pub openedBy : ℕ → ℕ
-openedBy zero = 1
-openedBy (suc n) = 0
-
--- the service of a call, and what it began and ended of it
-abbrev pub serviceOf : Call → ℕ
-serviceOf (Open service) = service
-serviceOf (OnDialogue service dialogue r) = service
-serviceOf (Receive service s) = service
-
-abbrev pub begunBy : Call → Out → ℕ
-begunBy (Open service) o = begunRows (o .rows) + openedBy (o .answer)
-begunBy (OnDialogue service dialogue r) o = begunRows (o .rows)
-begunBy (Receive service s) o = begunRows (o .rows)
-
-abbrev pub endedBy : Call → Out → ℕ
-endedBy (Open service) o = endedRows (o .rows)
-endedBy (OnDialogue service dialogue r) o = endedRows (o .rows) + endsBy r (o .answer)
-endedBy (Receive service s) o = endedRows (o .rows)
 
 -- A ROW OF A KIND
 module _ (r : Row) where

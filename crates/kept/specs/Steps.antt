@@ -24,7 +24,8 @@ use Rattle.facts.specs.Owners.{Owned, owned-is}
 use Rattle.kept.specs.Leaves.{whether-eq}
 use Rattle.kept.specs.Acts.{AllReadable, all-acted-stays, components-readable}
 use Rattle.kept.specs.Requests.{peers, begun-fine, place-fine, control-goes-on, Formed, frees, Leaves, does-kept}
-use Rattle.kept.specs.Counted.{isBegun, isEnded, begunRows, endedRows, endsBy, serviceOf, begunBy, endedBy, row-begun, row-ended, row-other, components-none}
+use Rattle.paper.specs.Counting.{isBegun, isEnded, begunRows, endedRows, endsBy, serviceOf, begunBy, endedBy}
+use Rattle.kept.specs.Counted.{row-begun, row-ended, row-other, components-none}
 use Rattle.kept.specs.Shared.{Moved, moved-as, not-moved, moved-freed, moved-on, moved-taken, lowest-there}
 
 -- A REQUEST THAT IS DONE answers 0, begins nothing, and ends a dialogue where it frees the place

@@ -1,8 +1,11 @@
 // The table's size, a fresh table, and the request that takes a place (01, "Dialogue states": "Open takes a place").
 use entry::Reply;
 use paper::Control;
+use paper::GUARANTEES;
 use paper::Invocation;
+use paper::LIMITS;
 use paper::Reject;
+use paper::TABLE_OCTETS;
 ghost use mathlib.Core.Path.{_≡_};
 ghost use mathlib.Core.List.{[]};
 ghost use Prim.Native.Nat.{ℕ, _<_};
@@ -18,7 +21,7 @@ ghost use Rattle.paper.specs.Outcome.{Gives, outcome, freshAnswer, freshOutcome
 pub fn table_size() -> usize
     ensures { λ r. ⌜ r ≡ tableSize ⌝ }
 {
-    36400
+    TABLE_OCTETS
 }
 
 fn wide(x: u8) -> u32
@@ -52,7 +55,7 @@ fn shares_fit(g: &[u8], l: &[u8]) -> bool
 fn fresh_answer(t: &[u8], g: &[u8], l: &[u8]) -> u32
     ensures { λ r. ⌜ r ≡ freshAnswer (now (t .entry)) (now (g .entry)) (now (l .entry)) ⌝ }
 {
-    if t.len() != 36400 {
+    if t.len() != TABLE_OCTETS {
         return 1;
     }
     if g.len() != 16 {
@@ -75,8 +78,8 @@ fn lay_out(t: &mut [u8], g: &[u8], l: &[u8])
     let map: [u8; 16] = [255; 16];
     places::clear(t);
     writing::copy_at(t, 0, &map);
-    writing::copy_at(t, 16, g);
-    writing::copy_at(t, 32, l);
+    writing::copy_at(t, GUARANTEES, g);
+    writing::copy_at(t, LIMITS, l);
 }
 
 // "Fresh gives only 1, 13 or 0."

@@ -9,6 +9,7 @@ pub mod Rows
 pub mod Shares
 pub mod Dialogues
 pub mod Calls
+pub mod Counting
 pub mod Layout
 pub mod Rules
 pub mod Readers

@@ -1,6 +1,8 @@
 -- SIZES (01, "Sizes"). Assumes nothing.
-use Prim.Native.Nat.{ℕ, _+_, _*_, _/_, _%_}
 use mathlib.Core.List.{List, [], _∷_}
+use Prim.Native.Nat.{ℕ, suc, _+_, _*_, _-_, _/_, _%_}
+use lib.IntN.{ℤ}
+use lib.IntN.ℤ.{pos, negsuc}
 
 -- "128 dialogue places"
 abbrev pub placesInAll : ℕ
@@ -60,3 +62,8 @@ three n l = n / 65536 % 256 ∷ n / 256 % 256 ∷ n % 256 ∷ l
 
 abbrev pub idOctets : ℕ → List ℕ
 idOctets dialogue = dialogue / 16777216 ∷ three dialogue []
+
+-- "-128 to 127 (in calls one signed octet)": its octet, a negative one's above 127; negsuc n is minus n, less one
+abbrev pub octetOf : ℤ → ℕ
+octetOf (pos n) = n
+octetOf (negsuc n) = 256 - suc n

@@ -104,3 +104,27 @@ pub struct Acted {
     pub kind: u32,
     pub problem: u32,
 }
+
+// ---- THE TABLE'S OCTETS (docs/TABLE.md; specs/Layout has the same numbers): its size, where its parts begin, and within a place.
+pub const TABLE_OCTETS: usize = 36400;
+
+pub const GUARANTEES: usize = 16;
+
+pub const LIMITS: usize = 32;
+
+pub const PLACES: usize = 48;
+
+pub const PLACE_OCTETS: usize = 284;
+
+pub const INVOCATIONS: usize = 12;
+
+pub const REJECTS: usize = 28;
+
+pub const WAITING: usize = 44;
+
+pub const FIRST_WAITING: usize = PLACES + WAITING;
+
+// "space for a message at least 272 octets; space for at least 128 rows of 8 32-bit numbers"
+pub const LEAST_ROWS: usize = 4096;
+
+pub const LEAST_SPACE: usize = 272;

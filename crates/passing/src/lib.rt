@@ -2,6 +2,8 @@
 // straight into the table.
 use entry::Reply;
 use paper::Control;
+use paper::FIRST_WAITING;
+use paper::PLACE_OCTETS;
 ghost use mathlib.Core.Path.{_≡_};
 ghost use mathlib.Core.List.{[], _++_};
 ghost use Prim.Native.Nat.{ℕ, _<_, _≤_};
@@ -33,7 +35,7 @@ fn put_invoke(
     requires { ⌜ Appending (now t) p c n (invokeOctets id linked (now op) (now par)) × (linked ≤ 256) ⌝ }
     ensures { λ r. ⌜ now (t .exit) ≡ encode (withPlace (view (now (t .entry))) p (withWaiting c (placeAt (view (now (t .entry))) p .waiting ++ invokeOctets id linked (now (op .entry)) (now (par .entry))))) ⌝ }
 {
-    let a = 92 + p * 284;
+    let a = FIRST_WAITING + p * PLACE_OCTETS;
     let e = writing::write_invoke(t, a + n, id, linked, op, par);
     places::put_control(t, p, c, (e - a) as u8);
 }
@@ -42,7 +44,7 @@ fn put_result(t: &mut [u8], p: usize, c: Control, n: usize, tag: u8, id: u8, op:
     requires { ⌜ Appending (now t) p c n (resultOctets tag id (now op) (now par)) ⌝ }
     ensures { λ r. ⌜ now (t .exit) ≡ encode (withPlace (view (now (t .entry))) p (withWaiting c (placeAt (view (now (t .entry))) p .waiting ++ resultOctets tag id (now (op .entry)) (now (par .entry))))) ⌝ }
 {
-    let a = 92 + p * 284;
+    let a = FIRST_WAITING + p * PLACE_OCTETS;
     let e = writing::write_result(t, a + n, tag, id, op, par);
     places::put_control(t, p, c, (e - a) as u8);
 }
@@ -51,7 +53,7 @@ fn put_error(t: &mut [u8], p: usize, c: Control, n: usize, id: u8, err: &[u8], p
     requires { ⌜ Appending (now t) p c n (errorOctets id (now err) (now par)) ⌝ }
     ensures { λ r. ⌜ now (t .exit) ≡ encode (withPlace (view (now (t .entry))) p (withWaiting c (placeAt (view (now (t .entry))) p .waiting ++ errorOctets id (now (err .entry)) (now (par .entry))))) ⌝ }
 {
-    let a = 92 + p * 284;
+    let a = FIRST_WAITING + p * PLACE_OCTETS;
     let e = writing::write_error(t, a + n, id, err, par);
     places::put_control(t, p, c, (e - a) as u8);
 }
@@ -60,7 +62,7 @@ fn put_reject(t: &mut [u8], p: usize, c: Control, n: usize, id: u8, problem: u32
     requires { ⌜ Appending (now t) p c n (rejectOctets id problem) × (problem < 1024) ⌝ }
     ensures { λ r. ⌜ now (t .exit) ≡ encode (withPlace (view (now (t .entry))) p (withWaiting c (placeAt (view (now (t .entry))) p .waiting ++ rejectOctets id problem))) ⌝ }
 {
-    let a = 92 + p * 284;
+    let a = FIRST_WAITING + p * PLACE_OCTETS;
     let e = writing::write_reject(t, a + n, id as u32, problem);
     places::put_control(t, p, c, (e - a) as u8);
 }

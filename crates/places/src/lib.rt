@@ -1,7 +1,13 @@
 // One place of the table loaded by value and stored back. A store writes that place's octets and its bit of the map, nothing else.
 use paper::Control;
+use paper::FIRST_WAITING;
+use paper::INVOCATIONS;
 use paper::Invocation;
+use paper::PLACE_OCTETS;
+use paper::PLACES;
+use paper::REJECTS;
 use paper::Reject;
+use paper::WAITING;
 ghost use mathlib.Core.Path.{_≡_};
 ghost use mathlib.Core.List.{[], _∷_, _++_};
 ghost use Prim.Native.Nat.{ℕ, _+_, _*_, _-_, _/_, _%_, _≤_, _<_};
@@ -71,7 +77,7 @@ fn invocations_of(s: &[u8]) -> [Invocation; 8]
     ensures { λ r. ⌜ r ≡ invocationsAt 8 12 (now (s .entry)) ⌝ }
 {
     [
-        invocation_at(s, 12),
+        invocation_at(s, INVOCATIONS),
         invocation_at(s, 14),
         invocation_at(s, 16),
         invocation_at(s, 18),
@@ -105,7 +111,7 @@ fn rejects_of(s: &[u8]) -> [Reject; 8]
     ensures { λ r. ⌜ r ≡ rejectsAt 8 28 (now (s .entry)) ⌝ }
 {
     [
-        reject_at(s, 28),
+        reject_at(s, REJECTS),
         reject_at(s, 30),
         reject_at(s, 32),
         reject_at(s, 34),
@@ -141,8 +147,8 @@ pub fn load(t: &[u8], p: usize) -> Control
     requires { ⌜ (p < 128) × (length (now t) ≡ 36400) ⌝ }
     ensures { λ r. ⌜ r ≡ placeAt (view (now (t .entry))) p .control ⌝ }
 {
-    let a = 48 + p * 284;
-    let e = a + 284;
+    let a = PLACES + p * PLACE_OCTETS;
+    let e = a + PLACE_OCTETS;
     control_of(&t[a..e])
 }
 
@@ -151,7 +157,7 @@ pub fn turn_at(t: &[u8], p: usize) -> u32
     requires { ⌜ (p < 128) × (length (now t) ≡ 36400) ⌝ }
     ensures { λ r. ⌜ (r ≡ placeAt (view (now (t .entry))) p .control .turn) × (r < 16777216) ⌝ }
 {
-    let a = 48 + p * 284;
+    let a = PLACES + p * PLACE_OCTETS;
     turn_of(t[a], t[a + 1], t[a + 2])
 }
 
@@ -160,7 +166,7 @@ pub fn state_at(t: &[u8], p: usize) -> u8
     requires { ⌜ (p < 128) × (length (now t) ≡ 36400) ⌝ }
     ensures { λ r. ⌜ r ≡ placeAt (view (now (t .entry))) p .control .state ⌝ }
 {
-    let a = 48 + p * 284;
+    let a = PLACES + p * PLACE_OCTETS;
     t[a + 3]
 }
 
@@ -177,7 +183,7 @@ pub fn waiting_length(t: &[u8], p: usize) -> usize
     requires { ⌜ Ready (now t) × (p < 128) ⌝ }
     ensures { λ r. ⌜ (r ≡ length (placeAt (view (now (t .entry))) p .waiting)) × (r ≤ 240) ⌝ }
 {
-    let a = 48 + p * 284;
+    let a = PLACES + p * PLACE_OCTETS;
     wide(t[a + 10])
 }
 
@@ -187,7 +193,7 @@ pub fn waiting(t: &[u8], p: usize) -> &[u8]
     ensures { λ r. ⌜ now r ≡ placeAt (view (now (t .entry))) p .waiting ⌝ }
 {
     let n = waiting_length(t, p);
-    let a = 92 + p * 284;
+    let a = FIRST_WAITING + p * PLACE_OCTETS;
     let e = a + n;
     &t[a..e]
 }
@@ -215,8 +221,8 @@ pub fn owner(t: &[u8], service: u32, dialogue: u32) -> bool
     if p >= 128 {
         return false;
     }
-    let a = 48 + p * 284;
-    let e = a + 284;
+    let a = PLACES + p * PLACE_OCTETS;
+    let e = a + PLACE_OCTETS;
     return is_dialogue(&t[a..e], service, dialogue % 16777216);
 }
 
@@ -335,13 +341,13 @@ pub fn put_control(t: &mut [u8], p: usize, c: Control, n: u8)
     requires { ⌜ (p < 128) × (length (now t) ≡ 36400) × Storable c ⌝ }
     ensures { λ r. ⌜ now (t .exit) ≡ over (now (t .entry)) (placeStart p) (controlOctets c n) ⌝ }
 {
-    let a = 48 + p * 284;
+    let a = PLACES + p * PLACE_OCTETS;
     let invocations = c.invocations;
     let rejects = c.rejects;
     let first = head_octets(c, n);
     put(t, a, &first);
-    put_invocations(t, a + 12, invocations);
-    put_rejects(t, a + 28, rejects);
+    put_invocations(t, a + INVOCATIONS, invocations);
+    put_rejects(t, a + REJECTS, rejects);
 }
 
 // "A turn starts at 0 and the turn goes up by one, modulo 16,777,216, each time its place is freed."
@@ -370,7 +376,7 @@ pub fn store_control(t: &mut [u8], p: usize, c: Control)
     requires { ⌜ Storing 0 (now t) p c ⌝ }
     ensures { λ r. ⌜ now (t .exit) ≡ encode (withPlace (view (now (t .entry))) p (withControl (placeAt (view (now (t .entry))) p) c)) ⌝ }
 {
-    let a = 48 + p * 284;
+    let a = PLACES + p * PLACE_OCTETS;
     let n = t[a + 10];
     put_control(t, p, c, n);
 }
@@ -380,10 +386,10 @@ pub fn pass_at(t: &mut [u8], p: usize, c: Control, octets: &[u8])
     requires { ⌜ Storing 0 (now t) p c × (length (placeAt (view (now t)) p .waiting) + length (now octets) ≤ 240) ⌝ }
     ensures { λ r. ⌜ now (t .exit) ≡ encode (withPlace (view (now (t .entry))) p (withWaiting c (placeAt (view (now (t .entry))) p .waiting ++ now (octets .entry)))) ⌝ }
 {
-    let a = 48 + p * 284;
+    let a = PLACES + p * PLACE_OCTETS;
     let n = wide(t[a + 10]);
     let m = n + octets.len();
-    put(t, a + (44 + n), octets);
+    put(t, a + (WAITING + n), octets);
     put_control(t, p, c, m as u8);
 }
 
@@ -392,7 +398,7 @@ pub fn sent_at(t: &mut [u8], p: usize, c: Control)
     requires { ⌜ Storing 0 (now t) p c ⌝ }
     ensures { λ r. ⌜ now (t .exit) ≡ encode (withPlace (view (now (t .entry))) p (withWaiting c [])) ⌝ }
 {
-    let a = 92 + p * 284;
+    let a = FIRST_WAITING + p * PLACE_OCTETS;
     let e = a + 240;
     clear(&mut t[a..e]);
     put_control(t, p, c, 0);
@@ -412,8 +418,8 @@ pub fn free_at(t: &mut [u8], p: usize)
     requires { ⌜ Ready (now t) × (p < 128) × (flag (placeAt (view (now t)) p) ≡ 0) ⌝ }
     ensures { λ r. ⌜ now (t .exit) ≡ encode (withPlace (view (now (t .entry))) p (freed (placeAt (view (now (t .entry))) p))) ⌝ }
 {
-    let a = 48 + p * 284;
-    let e = a + 284;
+    let a = PLACES + p * PLACE_OCTETS;
+    let e = a + PLACE_OCTETS;
     blank(&mut t[a..e]);
     freemap::set_bit(t, p);
 }

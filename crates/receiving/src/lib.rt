@@ -18,7 +18,9 @@ ghost use Rattle.messages.specs.Bounds.{RunIn, IdIn};
 ghost use Rattle.shows.specs.Shows.{Shows};
 ghost use Rattle.receiving.specs.Receives.{Read, Standing, Counts, Rowed, Leaves, Receives};
 use paper::Control;
+use paper::GUARANTEES;
 use paper::Invocation;
+use paper::LIMITS;
 use paper::Message;
 use paper::Reject;
 use paper::Row;
@@ -260,8 +262,8 @@ fn may_begin(t: &[u8], service: u32, n: Counted) -> bool
     ensures { λ r. ⌜ r ≡ mayBegin (view (now (t .entry))) service ⌝ }
 {
     let k = service as usize;
-    let guarantee = number(t[16 + k]);
-    let limit = number(t[32 + k]);
+    let guarantee = number(t[GUARANTEES + k]);
+    let limit = number(t[LIMITS + k]);
     return shares::gives_place(n.count, guarantee, limit, n.unused, n.free);
 }
 

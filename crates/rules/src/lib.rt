@@ -1,5 +1,13 @@
 // The table rules (01, "Answer numbers"): one pass over the 128 places, which counts them too, so that no call walks the table twice.
 // A run of zeros is an OR over all of it, which is quicker than leaving at the first octet that is not 0.
+use paper::GUARANTEES;
+use paper::INVOCATIONS;
+use paper::LIMITS;
+use paper::PLACE_OCTETS;
+use paper::PLACES;
+use paper::REJECTS;
+use paper::TABLE_OCTETS;
+use paper::WAITING;
 ghost use mathlib.Core.Path.{_≡_};
 ghost use mathlib.Core.Bool.{false};
 ghost use mathlib.Core.List.{[], _∷_};
@@ -22,7 +30,7 @@ fn zeros_from(rec: &[u8], k: usize) -> bool
 {
     let mut acc: u8 = 0;
     let mut i = k;
-    while i < 284 {
+    while i < PLACE_OCTETS {
         acc = acc | rec[i];
         i += 1;
     }
@@ -40,13 +48,13 @@ fn free_kept(rec: &[u8], bit: u8) -> bool
     if freemap::word(rec, 4) != 0 {
         return false;
     }
-    if freemap::word(rec, 12) != 0 {
+    if freemap::word(rec, INVOCATIONS) != 0 {
         return false;
     }
     if freemap::word(rec, 20) != 0 {
         return false;
     }
-    zeros_from(rec, 28)
+    zeros_from(rec, REJECTS)
 }
 
 // "octets and invocations not in use are zero; states .. classes .. are in range": of one invocation, by its two octets.
@@ -91,7 +99,7 @@ fn unused_from(rec: &[u8], id: u8, i: usize, n: usize) -> bool
 {
     let mut k = i;
     while k < n {
-        let a = 12 + 2 * k;
+        let a = INVOCATIONS + 2 * k;
         let b = a + 1;
         if is_open(rec[a], rec[b], id) {
             return false;
@@ -106,7 +114,7 @@ fn invocation_at_kept(rec: &[u8], i: usize, n: usize) -> bool
     requires { ⌜ (length (now rec) ≡ 284) × (i < n) × IdleFrom n (now rec) ⌝ }
     ensures { λ r. ⌜ r ≡ invocationAtKept (now (rec .entry)) i ⌝ }
 {
-    let a = 12 + 2 * i;
+    let a = INVOCATIONS + 2 * i;
     let b = a + 1;
     let id = rec[a];
     let o = rec[b];
@@ -172,7 +180,7 @@ fn reject_at_kept(rec: &[u8], n: u8, i: u8) -> bool
     requires { ⌜ (length (now rec) ≡ 284) × (i < 8) ⌝ }
     ensures { λ r. ⌜ r ≡ rejectAtKept n i (now (rec .entry)) ⌝ }
 {
-    let a = 28 + 2 * (i as usize);
+    let a = REJECTS + 2 * (i as usize);
     let b = a + 1;
     let id = rec[a];
     let o = rec[b];
@@ -207,7 +215,7 @@ fn rejects_kept(rec: &[u8], n: u8) -> bool
     ensures { λ r. ⌜ r ≡ rejectsKept n (rejectsFrom 0 (now (rec .entry))) ⌝ }
 {
     if n == 0 {
-        if freemap::word(rec, 28) == 0 {
+        if freemap::word(rec, REJECTS) == 0 {
             if freemap::word(rec, 36) == 0 {
                 return true;
             }
@@ -322,11 +330,11 @@ fn octets_kept(rec: &[u8], n: u8) -> bool
     ensures { λ r. ⌜ r ≡ octetsKept n (now (rec .entry)) ⌝ }
 {
     if n == 0 {
-        return zeros_from(rec, 44);
+        return zeros_from(rec, WAITING);
     }
-    let e = 44 + (n as usize);
+    let e = WAITING + (n as usize);
     if zeros_from(rec, e) {
-        return waiting_kept(&rec[44..e]);
+        return waiting_kept(&rec[WAITING..e]);
     }
     false
 }
@@ -340,7 +348,7 @@ fn tail_kept(rec: &[u8]) -> bool
     let k = rec[11];
     if n == 0 {
         if k == 0 {
-            return zeros_from(rec, 28);
+            return zeros_from(rec, REJECTS);
         }
     }
     if rejects_kept(rec, k) {
@@ -384,8 +392,8 @@ fn free_end(t: &[u8], p: usize) -> usize
 {
     let mut q = p;
     while q < 128 {
-        let a = 48 + q * 284;
-        let e = a + 284;
+        let a = PLACES + q * PLACE_OCTETS;
+        let e = a + PLACE_OCTETS;
         let b = freemap::bit_at(t, q);
         if is_free(&t[a..e], b) {
             q += 1;
@@ -423,8 +431,8 @@ fn scan(t: &[u8]) -> Kinds
     let mut counts: [u8; 16] = [0; 16];
     let mut p = free_end(t, 0);
     while p < 128 {
-        let a = 48 + p * 284;
-        let e = a + 284;
+        let a = PLACES + p * PLACE_OCTETS;
+        let e = a + PLACE_OCTETS;
         let b = freemap::bit_at(t, p);
         let k = kind_of(&t[a..e], b);
         if k >= 16 {
@@ -495,8 +503,8 @@ fn shares_kept(t: &[u8], counts: [u8; 16], free: u32) -> Parted
     let mut unused: u32 = 0;
     let mut k: usize = 0;
     while k < 16 {
-        let i = 16 + k;
-        let j = 32 + k;
+        let i = GUARANTEES + k;
+        let j = LIMITS + k;
         let g = t[i];
         let c = counts[k];
         if share_kept(g, t[j], c) {
@@ -541,7 +549,7 @@ fn refused(answer: u32) -> Checked
 pub fn check(t: &[u8]) -> Checked
     ensures { λ r. ⌜ CheckTold (now (t .entry)) (r .answer) (r .counts) (r .unused) (r .free) ⌝ }
 {
-    if t.len() != 36400 {
+    if t.len() != TABLE_OCTETS {
         return refused(1);
     }
     let s = scan(t);
@@ -569,8 +577,8 @@ pub fn may_begin(t: &[u8], service: usize, counts: [u8; 16], unused: u32, free: 
     requires { ⌜ Passed (now t) counts unused free × (service < 16) ⌝ }
     ensures { λ r. ⌜ r ≡ mayBegin (view (now (t .entry))) service ⌝ }
 {
-    let i = 16 + service;
-    let j = 32 + service;
+    let i = GUARANTEES + service;
+    let j = LIMITS + service;
     let guarantee = number(t[i]);
     let limit = number(t[j]);
     let count = number(counts[service]);

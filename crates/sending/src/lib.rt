@@ -2,6 +2,7 @@
 use entry::Met;
 use entry::Reply;
 use paper::Control;
+use paper::LEAST_SPACE;
 ghost use mathlib.Core.Path.{_≡_};
 ghost use mathlib.Core.List.{[]};
 ghost use Prim.Native.Nat.{_≤_};
@@ -23,7 +24,7 @@ ghost use Rattle.sending.specs.Starts.{Starts, peerRefusal, abortBy};
 fn start(t: &[u8], n: usize, service: u32, dialogue: u32) -> Met
     ensures { λ r. ⌜ Starts (now (t .entry)) n service dialogue (r .answer) (r .place) ⌝ }
 {
-    if n < 272 {
+    if n < LEAST_SPACE {
         return Met {
             answer: 1,
             place: 0,

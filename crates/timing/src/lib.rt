@@ -1,5 +1,6 @@
 // Timer events, and the two requests that write no message: cancel and prearranged end (01, "Dialogue states", "Invocation states").
 use entry::Reply;
+use paper::LEAST_ROWS;
 use paper::Run;
 ghost use mathlib.Core.Path.{_≡_};
 ghost use mathlib.Core.List.{[]};
@@ -79,7 +80,7 @@ pub fn reject_timeout(table: &mut [u8], service: u32, dialogue: u32, id: u8) -> 
 pub fn timeout(table: &mut [u8], service: u32, dialogue: u32, id: u8, rows: &mut [u8]) -> Reply
     ensures { λ r. ⌜ Gives (outcome (record { table = now (table .entry); rows = now (rows .entry); space = [] }) (OnDialogue service dialogue (Timeout id))) (r .answer) (r .rows) (r .length) (r .dialogue) (record { table = now (table .exit); rows = now (rows .exit); space = [] }) ⌝ }
 {
-    if rows.len() < 4096 {
+    if rows.len() < LEAST_ROWS {
         return entry::refused(1);
     }
     let m = entry::enter_at(table, service, dialogue);
@@ -105,7 +106,7 @@ pub fn timeout(table: &mut [u8], service: u32, dialogue: u32, id: u8, rows: &mut
 pub fn no_reaction(table: &mut [u8], service: u32, dialogue: u32, rows: &mut [u8]) -> Reply
     ensures { λ r. ⌜ Gives (outcome (record { table = now (table .entry); rows = now (rows .entry); space = [] }) (OnDialogue service dialogue NoReaction)) (r .answer) (r .rows) (r .length) (r .dialogue) (record { table = now (table .exit); rows = now (rows .exit); space = [] }) ⌝ }
 {
-    if rows.len() < 4096 {
+    if rows.len() < LEAST_ROWS {
         return entry::refused(1);
     }
     let m = entry::enter_at(table, service, dialogue);

@@ -1,0 +1,33 @@
+use Prim.Native.Nat.{ℕ}
+use Rattle.paper.specs.Dialogues.Request.{Cancel}
+use Rattle.paper.specs.Calls.Call.{OnDialogue}
+use Rattle.host.proofs.Octet.{of-octet}
+use borrow.Author.Needs.{needs}
+use Rattle.host.proofs.tcap_cancel.Statement.{statement}
+use Rattle.host.proofs.tcap_cancel.Tie as tie
+use Rattle.host.proofs.tcap_cancel.Reads as reads
+use Rattle.host.proofs.tcap_cancel.Lts as lts
+use Rattle.entry.proofs.octet_of.Reads as octet-of-reads
+use Rattle.timing.proofs.cancel.Reads as cancel-reads
+
+-- src/lib.rt:151:9
+octet-of-requires : tie.Need-octet-of-requires
+octet-of-requires c κs = search needs
+
+-- src/lib.rt:152:5
+cancel-requires : tie.Need-cancel-requires
+cancel-requires c κs = search needs
+
+-- src/lib.rt:147:1
+same-length : tie.Need-same-length
+same-length c = search needs
+
+-- src/lib.rt:147:1
+returns : tie.Need-returns
+returns c =
+    let start = c .before .before .before .before .before .before in
+    let a = start .args in
+    of-octet _ (λ (o : ℕ). OnDialogue (a .service) (a .dialogue) (Cancel o)) (a .id) (start .fits .id) (c .before .before .before .before .octet-of .ensures) (c .before .before .cancel .ensures)
+
+pub tcap-cancel-spec : {M : Type 1} → statement M
+tcap-cancel-spec = tie.close (tie.spec octet-of-requires cancel-requires same-length returns)

@@ -1,0 +1,33 @@
+use Prim.Native.Nat.{ℕ}
+use Rattle.paper.specs.Dialogues.Request.{Error}
+use Rattle.paper.specs.Calls.Call.{OnDialogue}
+use Rattle.host.proofs.Octet.{of-octet}
+use borrow.Author.Needs.{needs}
+use Rattle.host.proofs.tcap_error.Statement.{statement}
+use Rattle.host.proofs.tcap_error.Tie as tie
+use Rattle.host.proofs.tcap_error.Reads as reads
+use Rattle.host.proofs.tcap_error.Lts as lts
+use Rattle.entry.proofs.octet_of.Reads as octet-of-reads
+use Rattle.passing.proofs.error.Reads as error-reads
+
+-- src/lib.rt:129:9
+octet-of-requires : tie.Need-octet-of-requires
+octet-of-requires c κs = search needs
+
+-- src/lib.rt:130:5
+error-requires : tie.Need-error-requires
+error-requires c κs = search needs
+
+-- src/lib.rt:118:1
+same-length : tie.Need-same-length
+same-length c = search needs
+
+-- src/lib.rt:118:1
+returns : tie.Need-returns
+returns c =
+    let start = c .before .before .before .before .before .before .before .before in
+    let a = start .args in
+    of-octet _ (λ (o : ℕ). OnDialogue (a .service) (a .dialogue) (Error o (a .error .now) (a .parameter .now))) (a .id) (start .fits .id) (c .before .before .before .before .octet-of .ensures) (c .before .before .error .ensures)
+
+pub tcap-error-spec : {M : Type 1} → statement M
+tcap-error-spec = tie.close (tie.spec octet-of-requires error-requires same-length returns)

@@ -1,0 +1,34 @@
+use Prim.Native.Nat.{ℕ}
+use Rattle.paper.specs.Components.{noID}
+use Rattle.paper.specs.Dialogues.Request.{Invoke}
+use Rattle.paper.specs.Calls.Call.{OnDialogue}
+use Rattle.host.proofs.Octet.{of-octet}
+use borrow.Author.Needs.{needs}
+use Rattle.host.proofs.tcap_invoke.Statement.{statement}
+use Rattle.host.proofs.tcap_invoke.Tie as tie
+use Rattle.host.proofs.tcap_invoke.Reads as reads
+use Rattle.host.proofs.tcap_invoke.Lts as lts
+use Rattle.entry.proofs.octet_of.Reads as octet-of-reads
+use Rattle.passing.proofs.invoke.Reads as invoke-reads
+
+-- src/lib.rt:48:9
+octet-of-requires : tie.Need-octet-of-requires
+octet-of-requires c κs = search needs
+
+-- src/lib.rt:49:5
+invoke-requires : tie.Need-invoke-requires
+invoke-requires c κs = search needs
+
+-- src/lib.rt:36:1
+same-length : tie.Need-same-length
+same-length c = search needs
+
+-- src/lib.rt:36:1
+returns : tie.Need-returns
+returns c =
+    let start = c .before .before .before .before .before .before .before .before in
+    let a = start .args in
+    of-octet _ (λ (o : ℕ). OnDialogue (a .service) (a .dialogue) (Invoke o noID (a .class) (a .operation .now) (a .parameter .now))) (a .id) (start .fits .id) (c .before .before .before .before .octet-of .ensures) (c .before .before .invoke .ensures)
+
+pub tcap-invoke-spec : {M : Type 1} → statement M
+tcap-invoke-spec = tie.close (tie.spec octet-of-requires invoke-requires same-length returns)

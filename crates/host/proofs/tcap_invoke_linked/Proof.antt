@@ -1,0 +1,52 @@
+use Prim.Native.Nat.{ℕ}
+use Rattle.paper.specs.Sizes.{octetOf}
+use Rattle.paper.specs.Dialogues.Request.{Invoke}
+use Rattle.paper.specs.Calls.Call.{OnDialogue}
+use Rattle.host.proofs.Octet.{of-octet}
+use borrow.Author.Needs.{needs}
+use Rattle.host.proofs.tcap_invoke_linked.Statement.{statement}
+use Rattle.host.proofs.tcap_invoke_linked.Tie as tie
+use Rattle.host.proofs.tcap_invoke_linked.Reads as reads
+use Rattle.host.proofs.tcap_invoke_linked.Lts as lts
+use Rattle.entry.proofs.octet_of.Reads as octet-of-reads
+use Rattle.passing.proofs.invoke.Reads as invoke-reads
+
+-- src/lib.rt:74:9
+octet-of-requires : tie.Need-octet-of-requires
+octet-of-requires c κs = search needs
+
+-- src/lib.rt:75:9
+octet-of-requires-2 : tie.Need-octet-of-requires-2
+octet-of-requires-2 c κs = search needs
+
+-- src/lib.rt:81:9
+cast-invoke : tie.Need-cast-invoke
+cast-invoke c = search needs
+
+-- src/lib.rt:76:5
+invoke-requires : tie.Need-invoke-requires
+invoke-requires c κs = search needs
+
+-- src/lib.rt:61:1
+same-length : tie.Need-same-length
+same-length c = search needs
+
+-- src/lib.rt:61:1
+returns : tie.Need-returns
+returns c =
+    let start = c .before .before .before .before .before .before .before .before .before in
+    let a = start .args in
+    let other = c .before .before .before .before .octet-of2 in
+    of-octet _ (λ (o : ℕ). OnDialogue (a .service) (a .dialogue) (Invoke (octetOf (a .id)) o (a .class) (a .operation .now) (a .parameter .now))) (a .linked) (start .fits .linked) (other .ensures)
+    (of-octet _ (λ (o : ℕ). OnDialogue (a .service) (a .dialogue) (Invoke o (other .result) (a .class) (a .operation .now) (a .parameter .now))) (a .id) (start .fits .id) (c .before .before .before .before .before .octet-of .ensures) (c .before .before .invoke .ensures))
+
+pub tcap-invoke-linked-spec : {M : Type 1} → statement M
+tcap-invoke-linked-spec =
+    tie.close
+    (tie.spec
+    octet-of-requires
+    octet-of-requires-2
+    cast-invoke
+    invoke-requires
+    same-length
+    returns)

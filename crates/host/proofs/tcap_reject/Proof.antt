@@ -1,0 +1,33 @@
+use Prim.Native.Nat.{ℕ}
+use Rattle.paper.specs.Dialogues.Request.{UserReject}
+use Rattle.paper.specs.Calls.Call.{OnDialogue}
+use Rattle.host.proofs.Octet.{of-octet}
+use borrow.Author.Needs.{needs}
+use Rattle.host.proofs.tcap_reject.Statement.{statement}
+use Rattle.host.proofs.tcap_reject.Tie as tie
+use Rattle.host.proofs.tcap_reject.Reads as reads
+use Rattle.host.proofs.tcap_reject.Lts as lts
+use Rattle.entry.proofs.octet_of.Reads as octet-of-reads
+use Rattle.passing.proofs.reject.Reads as reject-reads
+
+-- src/lib.rt:143:9
+octet-of-requires : tie.Need-octet-of-requires
+octet-of-requires c κs = search needs
+
+-- src/lib.rt:144:5
+reject-requires : tie.Need-reject-requires
+reject-requires c κs = search needs
+
+-- src/lib.rt:133:1
+same-length : tie.Need-same-length
+same-length c = search needs
+
+-- src/lib.rt:133:1
+returns : tie.Need-returns
+returns c =
+    let start = c .before .before .before .before .before .before in
+    let a = start .args in
+    of-octet _ (λ (o : ℕ). OnDialogue (a .service) (a .dialogue) (UserReject o (a .problem))) (a .id) (start .fits .id) (c .before .before .before .before .octet-of .ensures) (c .before .before .reject .ensures)
+
+pub tcap-reject-spec : {M : Type 1} → statement M
+tcap-reject-spec = tie.close (tie.spec octet-of-requires reject-requires same-length returns)

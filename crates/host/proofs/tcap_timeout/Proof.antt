@@ -1,0 +1,38 @@
+use Prim.Native.Nat.{ℕ}
+use Rattle.paper.specs.Dialogues.Request.{Timeout}
+use Rattle.paper.specs.Calls.Call.{OnDialogue}
+use Rattle.host.proofs.Octet.{of-octet}
+use borrow.Author.Needs.{needs}
+use Rattle.host.proofs.tcap_timeout.Statement.{statement}
+use Rattle.host.proofs.tcap_timeout.Tie as tie
+use Rattle.host.proofs.tcap_timeout.Reads as reads
+use Rattle.host.proofs.tcap_timeout.Lts as lts
+use Rattle.entry.proofs.octet_of.Reads as octet-of-reads
+use Rattle.timing.proofs.timeout.Reads as timeout-reads
+
+-- src/lib.rt:241:9
+octet-of-requires : tie.Need-octet-of-requires
+octet-of-requires c κs = search needs
+
+-- src/lib.rt:242:5
+timeout-requires : tie.Need-timeout-requires
+timeout-requires c κs = search needs
+
+-- src/lib.rt:231:1
+same-length : tie.Need-same-length
+same-length c = search needs
+
+-- src/lib.rt:231:1
+same-length-2 : tie.Need-same-length-2
+same-length-2 c = search needs
+
+-- src/lib.rt:231:1
+returns : tie.Need-returns
+returns c =
+    let start = c .before .before .before .before .before .before .before .before .before .before in
+    let a = start .args in
+    of-octet _ (λ (o : ℕ). OnDialogue (a .service) (a .dialogue) (Timeout o)) (a .id) (start .fits .id) (c .before .before .before .before .before .before .before .octet-of .ensures) (c .before .before .before .before .timeout .ensures)
+
+pub tcap-timeout-spec : {M : Type 1} → statement M
+tcap-timeout-spec =
+    tie.close (tie.spec octet-of-requires timeout-requires same-length same-length-2 returns)

@@ -1,0 +1,63 @@
+-- COUNTED FOR DEMAND 3 (01, "A received message"): from the calls, their answers and rows alone, never from the table. Assumes nothing.
+use mathlib.Core.List.{List}
+use Prim.Native.Nat.{ℕ, zero, suc, _+_}
+use Rattle.laws.specs.If.{ifEq}
+use Rattle.laws.specs.Sums.{sumBy}
+use Rattle.paper.specs.declared.Row.{Row}
+use Rattle.paper.specs.Rows.{rowBegin, rowEnd, rowUserAbort, rowAbort}
+use Rattle.paper.specs.Dialogues.{Request}
+use Rattle.paper.specs.Dialogues.Request.{Invoke, Result, Error, UserReject, Cancel, Begin, Continue, End, Prearranged, Abort, Unidirectional, Timeout, RejectTimeout, NoReaction}
+use Rattle.paper.specs.Calls.{Call, Out}
+use Rattle.paper.specs.Calls.Call.{Open, OnDialogue, Receive}
+
+-- "a BEGIN row"; "a row 4, 5 or 6"
+unfoldable pub isBegun : Row → ℕ
+isBegun r = ifEq (r .kind) rowBegin 1 0
+
+unfoldable pub isEnded : Row → ℕ
+isEnded r = ifEq (r .kind) rowEnd 1 (ifEq (r .kind) rowUserAbort 1 (ifEq (r .kind) rowAbort 1 0))
+
+abbrev pub begunRows : List Row → ℕ
+begunRows rows = sumBy isBegun rows
+
+abbrev pub endedRows : List Row → ℕ
+endedRows rows = sumBy isEnded rows
+
+-- "an end, user abort or Unidirectional request answered 0"
+abbrev pub endsBy : Request → ℕ → ℕ
+endsBy r (suc n) = 0
+endsBy (Invoke id linked class op par) zero = 0
+endsBy (Result tag id op par) zero = 0
+endsBy (Error id err par) zero = 0
+endsBy (UserReject id p) zero = 0
+endsBy (Cancel id) zero = 0
+endsBy Begin zero = 0
+endsBy Continue zero = 0
+endsBy End zero = 1
+endsBy Prearranged zero = 1
+endsBy (Abort portion) zero = 1
+endsBy Unidirectional zero = 1
+endsBy (Timeout id) zero = 0
+endsBy (RejectTimeout id) zero = 0
+endsBy NoReaction zero = 0
+
+-- "an open answered 0"
+abbrev pub openedBy : ℕ → ℕ
+openedBy zero = 1
+openedBy (suc n) = 0
+
+-- the service of a call, and what it began and ended of it
+abbrev pub serviceOf : Call → ℕ
+serviceOf (Open service) = service
+serviceOf (OnDialogue service dialogue r) = service
+serviceOf (Receive service s) = service
+
+abbrev pub begunBy : Call → Out → ℕ
+begunBy (Open service) o = begunRows (o .rows) + openedBy (o .answer)
+begunBy (OnDialogue service dialogue r) o = begunRows (o .rows)
+begunBy (Receive service s) o = begunRows (o .rows)
+
+abbrev pub endedBy : Call → Out → ℕ
+endedBy (Open service) o = endedRows (o .rows)
+endedBy (OnDialogue service dialogue r) o = endedRows (o .rows) + endsBy r (o .answer)
+endedBy (Receive service s) o = endedRows (o .rows)
