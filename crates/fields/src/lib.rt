@@ -53,7 +53,7 @@ fn past(line: &[u8], separator: u8, from: usize) -> usize {
 }
 
 // The field with k others before it, empty after the last one.
-pub fn field(line: &[u8], separator: u8, k: usize) -> Field {
+pub fn nth(line: &[u8], separator: u8, k: usize) -> Field {
     let mut start = 0;
     let mut i = 0;
     while i < k {
@@ -67,14 +67,21 @@ pub fn field(line: &[u8], separator: u8, k: usize) -> Field {
     }
 }
 
+fn one_if(same: bool) -> usize
+    ensures { λ r. ⌜ r ≤ 1 ⌝ }
+{
+    if same {
+        return 1;
+    }
+    0
+}
+
 // How many separators a line has: one fewer than fields.
 pub fn separators(line: &[u8], separator: u8) -> usize {
     let mut n = 0;
     let mut i = 0;
     while i < line.len() {
-        if line[i] == separator {
-            n += 1;
-        }
+        n += one_if(line[i] == separator);
         i += 1;
     }
     n
@@ -95,7 +102,7 @@ pub fn cut<'a>(line: &'a [u8], f: Field) -> &'a [u8] {
 
 // The field with k others before it, its octets.
 pub fn part<'a>(line: &'a [u8], separator: u8, k: usize) -> &'a [u8] {
-    cut(line, field(line, separator, k))
+    cut(line, nth(line, separator, k))
 }
 
 // Is it this word?
@@ -133,7 +140,7 @@ fn with_digit(n: u32, base: u8, d: u8) -> u32 {
 }
 
 // Digits below the base, 10 or 16.
-fn number(s: &[u8], base: u8) -> Number {
+fn in_base(s: &[u8], base: u8) -> Number {
     let mut value = 0;
     let mut i = 0;
     while i < s.len() {
@@ -153,7 +160,7 @@ pub fn decimal(s: &[u8]) -> Number {
         return NO_NUMBER;
     }
     if s[0] != b'0' {
-        return number(s, 10);
+        return in_base(s, 10);
     }
     Number {
         value: 0,
@@ -166,11 +173,13 @@ pub fn dialogue(s: &[u8]) -> Number {
     if s.len() != 8 {
         return NO_NUMBER;
     }
-    number(s, 16)
+    in_base(s, 16)
 }
 
 // The octet of -n, n from 1 to 128.
-fn negative(s: &[u8]) -> Number {
+fn negative(s: &[u8]) -> Number
+    ensures { λ r. ⌜ r .value ≤ 255 ⌝ }
+{
     let n = decimal(s);
     if n.value == 0 {
         return NO_NUMBER;

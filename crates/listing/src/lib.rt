@@ -24,7 +24,7 @@ pub fn message(out: &mut [u8], at: usize, space: &[u8], count: u32) -> usize
     if n > space.len() {
         return text::octets(out, at, space);
     }
-    text::octets(out, at, &space[..n])
+    text::octets(out, at, &space[0..n])
 }
 
 fn wide(x: u8) -> u32

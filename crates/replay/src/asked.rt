@@ -12,7 +12,7 @@ pub struct Named {
 }
 
 pub fn field(line: &[u8], k: usize) -> Field {
-    fields::field(line, b' ', k)
+    fields::nth(line, b' ', k)
 }
 
 pub fn part<'a>(line: &'a [u8], k: usize) -> &'a [u8] {

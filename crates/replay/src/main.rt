@@ -1,8 +1,8 @@
 // Plays the calls on standard input, in the form that vectors/README.md gives, on one table, and writes after each what it gives, in
 // that form. Comments and the lines that tell what a call gives are passed over, so that a file of vectors may be fed as it is. A line
 // that cannot be read, or of more than 16,384 octets, gives its number and `bad`.
-mod call;
 mod asked;
+mod call;
 mod show;
 
 ghost use Prim.Native.Nat.{_≤_};
@@ -21,13 +21,7 @@ fn play(table: &mut [u8], rows: &mut [u8], space: &mut [u8], line: &mut [u8], l:
 }
 
 // Nothing says that the input ends, so the loop counts its turns down, from a number that no run uses up.
-fn replay(
-    buf: &mut [u8],
-    table: &mut [u8],
-    rows: &mut [u8],
-    space: &mut [u8],
-    line: &mut [u8],
-) {
+fn replay(buf: &mut [u8], table: &mut [u8], rows: &mut [u8], space: &mut [u8], line: &mut [u8]) {
     let mut l = lines::start();
     let mut turns = u64::MAX;
     while turns > 0 {

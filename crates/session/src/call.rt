@@ -71,7 +71,7 @@ fn begin(table: &mut [u8], space: &mut [u8], line: &[u8]) -> Played {
 // The dialogue is that of the first row, none in UNI (kind 1).
 fn receive(table: &mut [u8], rows: &mut [u8], space: &mut [u8], line: &mut [u8]) -> Played {
     let s = service(line);
-    let f = fields::field(line, b'\t', 2);
+    let f = fields::nth(line, b'\t', 2);
     let m = fields::octets(line, f);
     if s.ok && m.ok {
         let r = incoming::receive(table, s.value, fields::cut(line, m), rows, space);
@@ -88,8 +88,8 @@ fn invoke(table: &mut [u8], line: &mut [u8]) -> Played {
         let d = fields::dialogue(part(line, 2));
         let i = fields::id(part(line, 3));
         let class = fields::decimal(part(line, 4));
-        let f = fields::field(line, b'\t', 5);
-        let g = fields::field(line, b'\t', 6);
+        let f = fields::nth(line, b'\t', 5);
+        let g = fields::nth(line, b'\t', 6);
         let o = fields::octets(line, f);
         let p = fields::octets_or_none(line, g);
         if s.ok && d.ok && i.ok && class.ok && o.ok && p.ok {

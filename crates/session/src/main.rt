@@ -21,13 +21,7 @@ fn play(table: &mut [u8], rows: &mut [u8], space: &mut [u8], line: &mut [u8], l:
 }
 
 // Nothing says that the input ends, so the loop counts its turns down, from a number that no run uses up.
-fn session(
-    buf: &mut [u8],
-    table: &mut [u8],
-    rows: &mut [u8],
-    space: &mut [u8],
-    line: &mut [u8],
-) {
+fn session(buf: &mut [u8], table: &mut [u8], rows: &mut [u8], space: &mut [u8], line: &mut [u8]) {
     let mut l = lines::start();
     let mut turns = u64::MAX;
     while turns > 0 {
