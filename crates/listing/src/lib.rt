@@ -104,9 +104,7 @@ pub fn component(s: &[u8], k: usize) -> usize
 }
 
 // The same without a line of text.
-pub fn next_cursor(s: &[u8], k: usize) -> usize
-    ensures { λ r. ⌜ (0 < r → (k < r) × (r ≤ 525312)) ⌝ }
-{
+pub fn next_cursor(s: &[u8], k: usize) -> usize {
     match reader::piece_at(s, k) {
         Piece::Part(_, _, next) => next,
         Piece::End => 0,

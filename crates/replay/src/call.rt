@@ -1,5 +1,7 @@
 // A line of the input: a call, by its number of fields and its verb.
+ghost use Prim.Native.Nat.{_<_};
 use crate::asked;
+use crate::asked::Pair;
 use crate::show;
 use entry::Reply;
 
@@ -107,70 +109,71 @@ fn reject(table: &mut [u8], line: &[u8]) -> Reply {
     unread()
 }
 
-fn error(table: &mut [u8], line: &mut [u8]) -> Reply {
-    if asked::verb(line, b"error") {
-        let n = asked::on_invocation(line);
-        let f = asked::field(line, 4);
-        let g = asked::field(line, 5);
-        let e = fields::octets_or_none(line, f);
-        let p = fields::octets_or_none(line, g);
-        if n.ok && e.ok && p.ok {
-            return passing::error(
-                table,
-                n.service,
-                n.dialogue,
-                n.id,
-                fields::cut(line, e),
-                fields::cut(line, p),
-            );
-        }
+fn error(table: &mut [u8], line: &[u8], given: Pair) -> Reply {
+    let n = asked::on_invocation(line);
+    if n.ok {
+        return passing::error(
+            table,
+            n.service,
+            n.dialogue,
+            n.id,
+            fields::cut(line, given.first),
+            fields::cut(line, given.second),
+        );
     }
     unread()
 }
 
-fn result(table: &mut [u8], line: &mut [u8]) -> Reply {
-    if asked::verb(line, b"result") {
-        let n = asked::on_invocation(line);
-        let tag = asked::result_tag(asked::part(line, 4));
-        let f = asked::field(line, 5);
-        let g = asked::field(line, 6);
-        let o = fields::octets_or_none(line, f);
-        let p = fields::octets_or_none(line, g);
-        if n.ok && tag > 0 && o.ok && p.ok {
-            return passing::result(
-                table,
-                n.service,
-                n.dialogue,
-                tag,
-                n.id,
-                fields::cut(line, o),
-                fields::cut(line, p),
-            );
-        }
+fn result(table: &mut [u8], line: &[u8], given: Pair) -> Reply {
+    let n = asked::on_invocation(line);
+    let tag = asked::result_tag(asked::part(line, 4));
+    if n.ok && tag > 0 {
+        return passing::result(
+            table,
+            n.service,
+            n.dialogue,
+            tag,
+            n.id,
+            fields::cut(line, given.first),
+            fields::cut(line, given.second),
+        );
     }
     unread()
 }
 
-fn invoke(table: &mut [u8], line: &mut [u8]) -> Reply {
-    if asked::verb(line, b"invoke") {
-        let n = asked::on_invocation(line);
-        let linked = asked::linked(asked::part(line, 4));
-        let class = asked::number(line, 5);
-        let f = asked::field(line, 6);
-        let g = asked::field(line, 7);
-        let o = fields::octets_or_none(line, f);
-        let p = fields::octets_or_none(line, g);
-        if n.ok && linked.ok && class.ok && o.ok && p.ok {
-            return passing::invoke(
-                table,
-                n.service,
-                n.dialogue,
-                n.id,
-                linked.value,
-                class.value,
-                fields::cut(line, o),
-                fields::cut(line, p),
-            );
+fn invoke(table: &mut [u8], line: &[u8], given: Pair) -> Reply {
+    let n = asked::on_invocation(line);
+    let linked = asked::linked(asked::part(line, 4));
+    let class = asked::number(line, 5);
+    if n.ok && linked.ok && class.ok {
+        return passing::invoke(
+            table,
+            n.service,
+            n.dialogue,
+            n.id,
+            linked.value,
+            class.value,
+            fields::cut(line, given.first),
+            fields::cut(line, given.second),
+        );
+    }
+    unread()
+}
+
+// One that gives an operation or error and a parameter, in its last two fields, with k others before them.
+fn with_pair(table: &mut [u8], line: &mut [u8], k: usize) -> Reply
+    requires { ⌜ k < 8 ⌝ }
+{
+    let given = asked::octets_of_two(line, k);
+    if given.ok {
+        if k == 4 && asked::verb(line, b"error") {
+            return error(table, line, given);
+        }
+        if k == 5 && asked::verb(line, b"result") {
+            return result(table, line, given);
+        }
+        if k == 6 && asked::verb(line, b"invoke") {
+            return invoke(table, line, given);
         }
     }
     unread()
@@ -209,13 +212,13 @@ fn reply_to(table: &mut [u8], rows: &mut [u8], space: &mut [u8], line: &mut [u8]
         return reject(table, line);
     }
     if n == 5 {
-        return error(table, line);
+        return with_pair(table, line, 4);
     }
     if n == 6 {
-        return result(table, line);
+        return with_pair(table, line, 5);
     }
     if n == 7 {
-        return invoke(table, line);
+        return with_pair(table, line, 6);
     }
     unread()
 }

@@ -17,7 +17,7 @@ fn play(table: &mut [u8], rows: &mut [u8], space: &mut [u8], line: &mut [u8], l:
         return;
     }
     let n = l.count;
-    call::play(table, rows, space, &mut line[..n], l.number);
+    call::play(table, rows, space, &mut line[0..n], l.number);
 }
 
 // Nothing says that the input ends, so the loop counts its turns down, from a number that no run uses up.

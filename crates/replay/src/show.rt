@@ -14,23 +14,30 @@ fn opened(out: &mut [u8], at: usize, r: Reply, opens: bool) -> usize
     text::put(out, at, b'-')
 }
 
-// `= ANSWER DIALOGUE MESSAGE NROWS`
-fn reply_line(out: &mut [u8], r: Reply, opens: bool, space: &[u8]) -> usize
+// `= ANSWER DIALOGUE`, the dialogue of an open that is done
+fn answer_line(out: &mut [u8], r: Reply, opens: bool) -> usize
     ensures { λ r. ⌜ r ≤ length (now (out .exit)) ⌝ }
 {
     let a = text::put(out, 0, b'=');
     let b = text::number(out, a, r.answer as u64);
     let c = text::put(out, b, b' ');
-    let d = opened(out, c, r, opens);
-    let e = text::put(out, d, b' ');
-    let f = listing::message(out, e, space, r.length);
-    let g = text::number(out, f, r.rows as u64);
-    text::put(out, g, b'\n')
+    opened(out, c, r, opens)
+}
+
+// ` MESSAGE NROWS`
+fn message_line(out: &mut [u8], at: usize, r: Reply, space: &[u8]) -> usize
+    ensures { λ r. ⌜ r ≤ length (now (out .exit)) ⌝ }
+{
+    let a = text::put(out, at, b' ');
+    let b = listing::message(out, a, space, r.length);
+    let c = text::number(out, b, r.rows as u64);
+    text::put(out, c, b'\n')
 }
 
 pub fn reply(r: Reply, opens: bool, space: &[u8]) {
     let mut out = [0u8; 1024];
-    let n = reply_line(&mut out, r, opens, space);
+    let a = answer_line(&mut out, r, opens);
+    let n = message_line(&mut out, a, r, space);
     text::say(&out, n);
 }
 
@@ -64,15 +71,16 @@ pub fn parameter_line(s: &[u8], start: usize, count: usize) {
     text::say(&out, n);
 }
 
-// How many components the reader gives.
+// How many components the reader gives: fewer than the octets of a message.
 fn count(s: &[u8]) -> u64 {
     let mut n = 0;
-    let mut last = 0;
-    let mut k = listing::next_cursor(s, 0);
-    while k > 0 {
+    let mut k = 0;
+    while n < 512 {
+        k = listing::next_cursor(s, k);
+        if k == 0 {
+            return n;
+        }
         n += 1;
-        last = k;
-        k = listing::next_cursor(s, last);
     }
     n
 }
@@ -88,11 +96,12 @@ fn count_line(n: u64) {
 
 // That, and a line for each.
 pub fn component_lines(s: &[u8]) {
-    count_line(count(s));
-    let mut last = 0;
-    let mut k = listing::component(s, 0);
-    while k > 0 {
-        last = k;
-        k = listing::component(s, last);
+    let n = count(s);
+    count_line(n);
+    let mut k = 0;
+    let mut i = 0;
+    while i < n {
+        k = listing::component(s, k);
+        i += 1;
     }
 }

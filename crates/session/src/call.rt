@@ -109,7 +109,7 @@ fn invoke(table: &mut [u8], line: &mut [u8]) -> Played {
     unread()
 }
 
-pub fn played(table: &mut [u8], rows: &mut [u8], space: &mut [u8], line: &mut [u8]) -> Played {
+pub fn play(table: &mut [u8], rows: &mut [u8], space: &mut [u8], line: &mut [u8]) -> Played {
     let n = fields::separators(line, b'\t');
     if n == 1 {
         return open_for(table, line);

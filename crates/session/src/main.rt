@@ -16,7 +16,7 @@ fn play(table: &mut [u8], rows: &mut [u8], space: &mut [u8], line: &mut [u8], l:
         return;
     }
     let n = l.count;
-    let p = call::played(table, rows, space, &mut line[..n]);
+    let p = call::play(table, rows, space, &mut line[0..n]);
     show::line(l.number, p, table, space);
 }
 
