@@ -1,5 +1,5 @@
 // The fields of a line, parted by one separator, and the numbers and octets that they hold.
-ghost use Prim.Native.Nat.{_≤_};
+ghost use Prim.Native.Nat.{_<_, _≤_};
 ghost use lib.ListN.{length};
 
 // A part of a line, from `start` up to `stop`; not `ok` where it holds something else than was asked for.
@@ -268,4 +268,25 @@ pub fn octets_or_none(line: &mut [u8], f: Field) -> Field {
         };
     }
     octets(line, f)
+}
+
+// The octets of two fields that follow each other, `-` for none. What comes before them in the line stays.
+pub struct Pair {
+    pub first: Field,
+    pub second: Field,
+    pub ok: bool,
+}
+
+pub fn octets_of_two(line: &mut [u8], separator: u8, k: usize) -> Pair
+    requires { ⌜ k < 8 ⌝ }
+{
+    let f = nth(line, separator, k);
+    let g = nth(line, separator, k + 1);
+    let first = octets_or_none(line, f);
+    let second = octets_or_none(line, g);
+    Pair {
+        first,
+        second,
+        ok: first.ok && second.ok,
+    }
 }

@@ -1,5 +1,5 @@
 // What the fields of a line give, parted by one blank.
-ghost use Prim.Native.Nat.{_<_, _≤_};
+ghost use Prim.Native.Nat.{_≤_};
 use fields::Field;
 use fields::Number;
 
@@ -47,27 +47,6 @@ pub fn on_invocation(line: &[u8]) -> Named {
         dialogue: n.dialogue,
         id: i.value as u8,
         ok: n.ok && i.ok,
-    }
-}
-
-// The octets of two fields, each in its own place: what comes before them in the line stays.
-pub struct Pair {
-    pub first: Field,
-    pub second: Field,
-    pub ok: bool,
-}
-
-pub fn octets_of_two(line: &mut [u8], k: usize) -> Pair
-    requires { ⌜ k < 8 ⌝ }
-{
-    let f = field(line, k);
-    let g = field(line, k + 1);
-    let first = fields::octets_or_none(line, f);
-    let second = fields::octets_or_none(line, g);
-    Pair {
-        first,
-        second,
-        ok: first.ok && second.ok,
     }
 }
 

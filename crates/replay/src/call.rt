@@ -1,9 +1,9 @@
 // A line of the input: a call, by its number of fields and its verb.
 ghost use Prim.Native.Nat.{_<_};
 use crate::asked;
-use crate::asked::Pair;
 use crate::show;
 use entry::Reply;
+use fields::Pair;
 
 // The answer that no call gives: a line that cannot be read.
 const UNREAD: u32 = 255;
@@ -164,7 +164,7 @@ fn invoke(table: &mut [u8], line: &[u8], given: Pair) -> Reply {
 fn with_pair(table: &mut [u8], line: &mut [u8], k: usize) -> Reply
     requires { ⌜ k < 8 ⌝ }
 {
-    let given = asked::octets_of_two(line, k);
+    let given = fields::octets_of_two(line, b' ', k);
     if given.ok {
         if k == 4 && asked::verb(line, b"error") {
             return error(table, line, given);

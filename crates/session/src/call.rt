@@ -1,6 +1,7 @@
 // A line as a call, by its number of fields and its verb.
 use entry::Reply;
 use fields::Number;
+use fields::Pair;
 
 // What it gave: the dialogue only where there is one to tell of. `read` tells whether it was a line that can be read.
 pub struct Played {
@@ -82,31 +83,42 @@ fn receive(table: &mut [u8], rows: &mut [u8], space: &mut [u8], line: &mut [u8])
     unread()
 }
 
-fn invoke(table: &mut [u8], line: &mut [u8]) -> Played {
-    if verb(line, b"invoke") {
-        let s = service(line);
-        let d = fields::dialogue(part(line, 2));
-        let i = fields::id(part(line, 3));
-        let class = fields::decimal(part(line, 4));
-        let f = fields::nth(line, b'\t', 5);
-        let g = fields::nth(line, b'\t', 6);
-        let o = fields::octets(line, f);
-        let p = fields::octets_or_none(line, g);
-        if s.ok && d.ok && i.ok && class.ok && o.ok && p.ok {
-            let r = passing::invoke(
-                table,
-                s.value,
-                d.value,
-                i.value as u8,
-                256,
-                class.value,
-                fields::cut(line, o),
-                fields::cut(line, p),
-            );
-            return about(r, true, d.value);
-        }
+// The operation and the parameter are octets in the line.
+fn invoke_with(table: &mut [u8], line: &[u8], given: Pair) -> Played {
+    let s = service(line);
+    let d = fields::dialogue(part(line, 2));
+    let class = fields::decimal(part(line, 4));
+    let i = fields::id(part(line, 3));
+    if s.ok && d.ok && i.ok && class.ok {
+        let r = passing::invoke(
+            table,
+            s.value,
+            d.value,
+            i.value as u8,
+            256,
+            class.value,
+            fields::cut(line, given.first),
+            fields::cut(line, given.second),
+        );
+        return about(r, true, d.value);
     }
     unread()
+}
+
+fn invoke(table: &mut [u8], line: &mut [u8]) -> Played {
+    let given = fields::octets_of_two(line, b'\t', 5);
+    if given.ok {
+        return invoke_with(table, line, given);
+    }
+    unread()
+}
+
+// Only the parameter may be `-`.
+fn invokes(line: &[u8]) -> bool {
+    if fields::is(part(line, 5), b"-") {
+        return false;
+    }
+    verb(line, b"invoke")
 }
 
 pub fn play(table: &mut [u8], rows: &mut [u8], space: &mut [u8], line: &mut [u8]) -> Played {
@@ -115,7 +127,9 @@ pub fn play(table: &mut [u8], rows: &mut [u8], space: &mut [u8], line: &mut [u8]
         return open_for(table, line);
     }
     if n == 6 {
-        return invoke(table, line);
+        if invokes(line) {
+            return invoke(table, line);
+        }
     }
     if n == 2 {
         if verb(line, b"begin") {
