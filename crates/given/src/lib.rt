@@ -100,7 +100,7 @@ pub fn both_refusal(n: usize, op: &[u8], par: &[u8]) -> u32
         if par.len() > 240 {
             return 12;
         }
-        let size = writing::result_size(op, par);
+        let size = writing_components::result_size(op, par);
         if n + size > 240 {
             return 12;
         }

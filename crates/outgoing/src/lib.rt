@@ -34,7 +34,7 @@ fn rejects_size(c: Control) -> usize
     let mut i: usize = 0;
     while i < n {
         let w = l[i];
-        sum = sum + writing::reject_size(w.id);
+        sum = sum + writing_components::reject_size(w.id);
         i += 1;
     }
     return sum;
@@ -51,7 +51,7 @@ fn write_rejects(out: &mut [u8], at: usize, c: Control) -> usize
     let mut i: usize = 0;
     while i < n {
         let w = l[i];
-        e = writing::write_reject(out, e, w.id, w.problem);
+        e = writing_components::write_reject(out, e, w.id, w.problem);
         i += 1;
     }
     return e;

@@ -36,7 +36,7 @@ fn put_invoke(
     ensures { λ r. ⌜ now (t .exit) ≡ encode (withPlace (view (now (t .entry))) p (withWaiting c (placeAt (view (now (t .entry))) p .waiting ++ invokeOctets id linked (now (op .entry)) (now (par .entry))))) ⌝ }
 {
     let a = FIRST_WAITING + p * PLACE_OCTETS;
-    let e = writing::write_invoke(t, a + n, id, linked, op, par);
+    let e = writing_components::write_invoke(t, a + n, id, linked, op, par);
     places::put_control(t, p, c, (e - a) as u8);
 }
 
@@ -45,7 +45,7 @@ fn put_result(t: &mut [u8], p: usize, c: Control, n: usize, tag: u8, id: u8, op:
     ensures { λ r. ⌜ now (t .exit) ≡ encode (withPlace (view (now (t .entry))) p (withWaiting c (placeAt (view (now (t .entry))) p .waiting ++ resultOctets tag id (now (op .entry)) (now (par .entry))))) ⌝ }
 {
     let a = FIRST_WAITING + p * PLACE_OCTETS;
-    let e = writing::write_result(t, a + n, tag, id, op, par);
+    let e = writing_components::write_result(t, a + n, tag, id, op, par);
     places::put_control(t, p, c, (e - a) as u8);
 }
 
@@ -54,7 +54,7 @@ fn put_error(t: &mut [u8], p: usize, c: Control, n: usize, id: u8, err: &[u8], p
     ensures { λ r. ⌜ now (t .exit) ≡ encode (withPlace (view (now (t .entry))) p (withWaiting c (placeAt (view (now (t .entry))) p .waiting ++ errorOctets id (now (err .entry)) (now (par .entry))))) ⌝ }
 {
     let a = FIRST_WAITING + p * PLACE_OCTETS;
-    let e = writing::write_error(t, a + n, id, err, par);
+    let e = writing_components::write_error(t, a + n, id, err, par);
     places::put_control(t, p, c, (e - a) as u8);
 }
 
@@ -63,7 +63,7 @@ fn put_reject(t: &mut [u8], p: usize, c: Control, n: usize, id: u8, problem: u32
     ensures { λ r. ⌜ now (t .exit) ≡ encode (withPlace (view (now (t .entry))) p (withWaiting c (placeAt (view (now (t .entry))) p .waiting ++ rejectOctets id problem))) ⌝ }
 {
     let a = FIRST_WAITING + p * PLACE_OCTETS;
-    let e = writing::write_reject(t, a + n, id as u32, problem);
+    let e = writing_components::write_reject(t, a + n, id as u32, problem);
     places::put_control(t, p, c, (e - a) as u8);
 }
 

@@ -143,7 +143,7 @@ fn faulted(
     }
     let a = id.start;
     let e = a + id.length;
-    let n = writing::write_cause_abort(space, 0, &s[a..e], cause);
+    let n = writing_messages::write_cause_abort(space, 0, &s[a..e], cause);
     if assigned(t, service, s, m) {
         let d = m.destination;
         let me = number_at(s, d.start);

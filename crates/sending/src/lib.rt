@@ -60,7 +60,7 @@ fn write_begin(
     ensures is { λ r. ⌜ Wrote (now (out .entry)) 0 (beginOctets (idOctets dialogue) (sentComponents (placeAt (view (now (t .entry))) p))) r (now (out .exit)) ⌝ }
     ensures within { λ r. ⌜ r ≤ 272 ⌝ }
 {
-    let a = writing::begin_head(out, 0, dialogue, n);
+    let a = writing_messages::begin_head(out, 0, dialogue, n);
     return outgoing::write_sent(out, a, t, p, c, fits);
 }
 
@@ -79,7 +79,7 @@ fn write_continue(
     ensures within { λ r. ⌜ r ≤ 272 ⌝ }
 {
     let peer = c.peer;
-    let a = writing::continue_head(out, 0, dialogue, peer, c.peerlen as usize, n);
+    let a = writing_messages::continue_head(out, 0, dialogue, peer, c.peerlen as usize, n);
     return outgoing::write_sent(out, a, t, p, c, fits);
 }
 
@@ -90,7 +90,7 @@ fn write_end(out: &mut [u8], t: &[u8], p: usize, c: Control, fits: bool, n: usiz
     ensures within { λ r. ⌜ r ≤ 272 ⌝ }
 {
     let peer = c.peer;
-    let a = writing::end_head(out, 0, peer, c.peerlen as usize, n);
+    let a = writing_messages::end_head(out, 0, peer, c.peerlen as usize, n);
     return outgoing::write_sent(out, a, t, p, c, fits);
 }
 
@@ -164,7 +164,7 @@ fn write_uni(out: &mut [u8], t: &[u8], p: usize, c: Control, fits: bool, n: usiz
     ensures is { λ r. ⌜ Wrote (now (out .entry)) 0 (uniOctets (sentComponents (placeAt (view (now (t .entry))) p))) r (now (out .exit)) ⌝ }
     ensures within { λ r. ⌜ r ≤ 272 ⌝ }
 {
-    let a = writing::uni_head(out, 0, n);
+    let a = writing_messages::uni_head(out, 0, n);
     return outgoing::write_sent(out, a, t, p, c, fits);
 }
 
@@ -199,7 +199,7 @@ fn write_abort(out: &mut [u8], c: Control, portion: &[u8]) -> usize
         return 0;
     }
     let peer = c.peer;
-    return writing::write_user_abort(out, 0, peer, c.peerlen as usize, portion);
+    return writing_messages::write_user_abort(out, 0, peer, c.peerlen as usize, portion);
 }
 
 // "Prearranged end and user abort (both free): any; only abort takes a dialogue portion, a whole 6B element or none".
