@@ -17,7 +17,7 @@ use Rattle.paper.specs.Messages.{messageOf, isSound, beginTag}
 use Rattle.paper.specs.Writing.{causeAbortOctets}
 use Rattle.paper.specs.Calls.Call.{Open, OnDialogue, Receive}
 use Rattle.paper.specs.Layout.{encode, view}
-use Rattle.paper.specs.Outcome.{Lent, Outcome, spacesFor, standing, given, shown, refusedBy, outcome, noSpace}
+use Rattle.paper.specs.Outcome.{Lent, Outcome, Gives, spacesFor, standing, given, shown, refusedBy, outcome, noSpace, one}
 use Rattle.facts.specs.Fine.{Octets, Fine}
 use Rattle.facts.specs.Whole.{view-encode}
 use Rattle.facts.specs.Ready.{Ready, encode-stands}
@@ -29,6 +29,7 @@ use Rattle.kept.specs.Tables.{outcome-ready, ready-rules}
 use Rattle.shares.specs.Share.{Shares, Sound, below-given, refused-at-limit, refused-full, refused-why}
 use Rattle.kept.specs.Shared.{shares as fine-shares, sound as fine-sound}
 use Rattle.kept.specs.Fresh.{fresh-fine, fresh-none}
+use Rattle.demands.specs.Stands.{Stands, not-refused}
 use Rattle.demands.specs.Put.{putIn, ReadBack}
 use Rattle.demands.specs.Answered.{outcome-sent}
 use Rattle.demands.specs.Passed.{waitingOf, Passed, outcome-passed}
@@ -45,6 +46,16 @@ refusal-changes-nothing l c = stand (standing l (spacesFor c))
     stand zero h =
         by-eq {r = shown 0 l (step (view (l .table)) c)} (step (view (l .table)) c .answer) 0 (given l (step (view (l .table)) c)) (refusedBy (step (view (l .table)) c .answer) l) refl
         (λ z e. absurd (h (ap (λ (x : Outcome). x .answer) e))) (λ z e. ap (λ (x : Outcome). x .lent) e)
+
+-- DEMAND 2: where the spaces have the right sizes and the table keeps the rules, the outcome is the definitions' step
+pub outcome-is-step : (l : Lent) (c : Call) → Stands l (spacesFor c) → outcome l c ≡ shown 0 l (step (view (l .table)) c)
+unfolding outcome
+outcome-is-step l c w = ap (λ (n : ℕ). shown n l (step (view (l .table)) c)) (not-refused l (spacesFor c) w)
+
+-- any two outcomes that the contract of a call allows are equal: reply, table, rows and message space
+pub same-outcome : (l : Lent) (c : Call) {a b r q n m d e : ℕ} {k j : Lent} → Gives (outcome l c) a r n d k → Gives (outcome l c) b q m e j
+    → (a ≡ b) × (r ≡ q) × (n ≡ m) × (d ≡ e) × (k ≡ j)
+same-outcome l c = one
 
 -- DEMAND 2, the table: what a call leaves of a table that keeps the rules keeps them, so that a table handed on is never refused by 2
 pub never-broken : (l : Lent) (c : Call) → WellFormed c → Ready (l .table) → rules (outcome l c .lent .table) ≡ true

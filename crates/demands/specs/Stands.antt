@@ -1,10 +1,10 @@
 -- WHAT WAS LENT STANDS where it is refused neither by 1 nor by 2. Assumes nothing.
-use mathlib.Core.Path.{_≡_, sym}
+use mathlib.Core.Path.{_≡_, refl, sym}
 use mathlib.Core.Bool.{true}
 use Prim.Native.Nat.{_≤_}
 use native.Mathlib.Omega.{arith}
 use lib.ListN.{length}
-use Rattle.laws.specs.If.{was-eq, was-ge, was-yes}
+use Rattle.laws.specs.If.{eq, ge, yes, was-eq, was-ge, was-yes}
 use Rattle.paper.specs.Layout.{tableSize}
 use Rattle.paper.specs.Rules.{rules}
 use Rattle.paper.specs.Outcome.{Lent, Spaces, standing}
@@ -25,6 +25,10 @@ stands l n e =
     let c = was-ge _ _ _ _ (b .1) (λ h. omega arith) in
     let d = was-yes _ _ _ (c .1) (λ h. omega arith) in
     record { long = a .0; rows = b .0; space = c .0; kept = d .0 }
+
+pub not-refused : (l : Lent) (n : Spaces) → Stands l n → standing l n ≡ 0
+unfolding standing
+not-refused l n w = sym (eq _ _ _ _ (w .long) (ge _ _ _ _ (w .rows) (ge _ _ _ _ (w .space) (yes _ _ _ (w .kept) refl))))
 
 -- a table of octets that stands keeps the rules, and is all that a call asks of it
 pub stands-ready : (l : Lent) (n : Spaces) → Octets (l .table) → standing l n ≡ 0 → Ready (l .table)
