@@ -24,34 +24,6 @@ pub fn table_size() -> usize
     TABLE_OCTETS
 }
 
-fn wide(x: u8) -> u32
-    ensures { λ r. ⌜ (r ≡ x) × (r < 256) ⌝ }
-{
-    x as u32
-}
-
-// Not so: "a guarantee above its limit, a limit above 128, or guarantees over 128 together" (13).
-fn shares_fit(g: &[u8], l: &[u8]) -> bool
-    requires { ⌜ (length (now g) ≡ 16) × (length (now l) ≡ 16) ⌝ }
-    ensures { λ r. ⌜ r ≡ sharesFit 128 16 (λ k. getD (now (g .entry)) k 0) (λ k. getD (now (l .entry)) k 0) ⌝ }
-{
-    let mut sum: u32 = 0;
-    let mut k: usize = 0;
-    while k < 16 {
-        let guarantee = g[k];
-        let limit = l[k];
-        if limit < guarantee {
-            return false;
-        }
-        if limit > 128 {
-            return false;
-        }
-        sum = sum + wide(guarantee);
-        k += 1;
-    }
-    return sum <= 128;
-}
-
 fn fresh_answer(t: &[u8], g: &[u8], l: &[u8]) -> u32
     ensures { λ r. ⌜ r ≡ freshAnswer (now (t .entry)) (now (g .entry)) (now (l .entry)) ⌝ }
 {
@@ -64,7 +36,7 @@ fn fresh_answer(t: &[u8], g: &[u8], l: &[u8]) -> u32
     if l.len() != 16 {
         return 1;
     }
-    if shares_fit(g, l) {
+    if shares::shares_fit(g, l) {
         return 0;
     }
     return 13;

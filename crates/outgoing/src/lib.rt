@@ -182,32 +182,11 @@ pub fn uni_refusal(t: &[u8], p: usize, c: Control) -> u32
     return 6;
 }
 
-// "a whole 6B element or none"
-fn is_portion(s: &[u8]) -> bool
-    ensures { λ r. ⌜ r ≡ isPortion (now (s .entry)) ⌝ }
-{
-    let n = s.len();
-    if n == 0 {
-        return true;
-    }
-    if s[0] != 0x6B {
-        return false;
-    }
-    match elements::element(s, 16, n, 0) {
-        Reading::Ends(e) => {
-            return e == n;
-        }
-        Reading::Fault(_) => {
-            return false;
-        }
-    }
-}
-
 // A user abort's dialogue portion: not one well-formed element of its kind (11), over 240 octets (12).
 pub fn abort_refusal(portion: &[u8]) -> u32
     ensures { λ r. ⌜ r ≡ abortRefusal (now (portion .entry)) ⌝ }
 {
-    if is_portion(portion) {
+    if given::is_portion(portion) {
         if portion.len() > 240 {
             return 12;
         }

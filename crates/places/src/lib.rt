@@ -234,13 +234,6 @@ pub fn lowest_place(t: &[u8]) -> usize
     freemap::lowest_free(t)
 }
 
-pub fn free_places(t: &[u8]) -> u32
-    requires { ⌜ Ready (now t) ⌝ }
-    ensures { λ r. ⌜ (r ≡ free 128 16 (held (view (now (t .entry)) .places))) × (r ≤ 128) ⌝ }
-{
-    freemap::free_count(t)
-}
-
 // ---- STORED
 // All of some octets, put into t from an index on.
 fn put(t: &mut [u8], at: usize, octets: &[u8])
@@ -379,18 +372,6 @@ pub fn store_control(t: &mut [u8], p: usize, c: Control)
     let a = PLACES + p * PLACE_OCTETS;
     let n = t[a + 10];
     put_control(t, p, c, n);
-}
-
-// The control record of a dialogue, and octets after those that wait.
-pub fn pass_at(t: &mut [u8], p: usize, c: Control, octets: &[u8])
-    requires { ⌜ Storing 0 (now t) p c × (length (placeAt (view (now t)) p .waiting) + length (now octets) ≤ 240) ⌝ }
-    ensures { λ r. ⌜ now (t .exit) ≡ encode (withPlace (view (now (t .entry))) p (withWaiting c (placeAt (view (now (t .entry))) p .waiting ++ now (octets .entry)))) ⌝ }
-{
-    let a = PLACES + p * PLACE_OCTETS;
-    let n = wide(t[a + 10]);
-    let m = n + octets.len();
-    put(t, a + (WAITING + n), octets);
-    put_control(t, p, c, m as u8);
 }
 
 // The control record of a dialogue, and no waiting octets.

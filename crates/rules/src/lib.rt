@@ -571,16 +571,3 @@ pub fn check(t: &[u8]) -> Checked
     }
     refused(2)
 }
-
-// Whether a service is given a place (demand 3), by what the check counted.
-pub fn may_begin(t: &[u8], service: usize, counts: [u8; 16], unused: u32, free: u32) -> bool
-    requires { ⌜ Passed (now t) counts unused free × (service < 16) ⌝ }
-    ensures { λ r. ⌜ r ≡ mayBegin (view (now (t .entry))) service ⌝ }
-{
-    let i = GUARANTEES + service;
-    let j = LIMITS + service;
-    let guarantee = number(t[i]);
-    let limit = number(t[j]);
-    let count = number(counts[service]);
-    shares::gives_place(count, guarantee, limit, unused, free)
-}
