@@ -1,7 +1,6 @@
 // What a sending writes after a message's head, and what it leaves of the dialogue (01, "Dialogue states").
 use paper::Component;
 use paper::Control;
-use paper::Reading;
 use paper::Reject;
 ghost use mathlib.Core.Path.{_≡_};
 ghost use Prim.Native.Nat.{_+_, _<_, _≤_};
@@ -9,7 +8,7 @@ ghost use lib.ListN.{length};
 ghost use Rattle.laws.specs.Runs.{Wrote};
 ghost use Rattle.laws.specs.Lists.{every};
 ghost use Rattle.paper.specs.Components.{components};
-ghost use Rattle.paper.specs.Dialogues.{isPortion, ofClass4, uniRefusal, abortRefusal, waitingRejects, rejectsFit, sentComponents, withState, withoutRejects, afterSending};
+ghost use Rattle.paper.specs.Dialogues.{ofClass4, uniRefusal, abortRefusal, waitingRejects, rejectsFit, sentComponents, withState, withoutRejects, afterSending};
 ghost use Rattle.paper.specs.Calls.{placeAt, withPlace};
 ghost use Rattle.paper.specs.Layout.{encode, view};
 ghost use Rattle.facts.specs.Fine.{FineControl};
