@@ -1,8 +1,8 @@
 use native.Mathlib.Omega.{arith}
 use Rattle.reader.specs.Whole.{piece-lies}
 use borrow.Author.Needs.{needs}
-use Rattle.read.proofs.show.component.Statement.{statement}
-use Rattle.read.proofs.show.component.Tie as tie
+use Rattle.listing.proofs.component.Statement.{statement}
+use Rattle.listing.proofs.component.Tie as tie
 
 piece-at-requires : tie.Need-piece-at-requires
 piece-at-requires c κs = search needs
