@@ -1,55 +1,64 @@
 -- A RECEIVED BEGIN is answered by the share rule: its dialogue begins, or its Abort has cause 4. Assumes nothing.
-use mathlib.Core.Path.{_≡_, refl, sym, ap, subst, _∙_}
+use mathlib.Core.Path.{_≡_, refl, sym, ap, _∙_}
 use mathlib.Core.Bool.{Bool, true, false}
-use mathlib.Core.List.{List, [], _∷_}
-use Prim.Native.Nat.{ℕ, zero, suc, _+_, _≤_, _<_}
+use mathlib.Core.List.{List, []}
+use Prim.Native.Nat.{ℕ, _≤_, _<_}
 use native.Mathlib.Omega.{arith}
 use lib.ListN.{length, getD}
-use lib.Dec.{eqb}
-use Rattle.laws.specs.If.{ifLt, ifEq, ifB, lt, ge, eq, ne, yes, no, by-eq}
+use Rattle.laws.specs.If.{ifB, lt, ge, eq, ne, no}
 use Rattle.paper.specs.declared.Length.{Length}
 use Rattle.paper.specs.declared.Length.the-variants.{Wrong, Given, Until}
 use Rattle.paper.specs.declared.Reading.{Reading}
 use Rattle.paper.specs.declared.Reading.the-variants.{Ends, Fault}
-use Rattle.paper.specs.declared.Frame.{Frame}
 use Rattle.paper.specs.declared.Run.{Run}
 use Rattle.paper.specs.declared.Message.{Message}
 use Rattle.paper.specs.Sizes.{services, depths}
-use Rattle.paper.specs.Elements.{constructor, lengthAt, element, frameAt}
-use Rattle.paper.specs.Messages.{Derived, derived, faultOf, soundOf, closing, octetAt, componentsBy, componentsPart, abortPart, afterPortion, portionPart, inOrder, typed, byLength, messageOf, originOf, destinationOf, past, noRun, isSound, isDropped, uniTag, beginTag, abortTag}
+use Rattle.paper.specs.Elements.{lengthAt, element}
+use Rattle.paper.specs.Messages.{Derived, derived, faultOf, soundOf, closing, octetAt, componentsBy, componentsPart, abortPart, afterPortion, portionPart, inOrder, byLength, messageOf, destinationOf, noRun, isSound, isDropped, uniTag, beginTag, abortTag}
 use Rattle.paper.specs.Writing.{causeAbortOctets}
-use Rattle.paper.specs.Calls.{Table, Call, Out, mayBegin, lowestFree, owns, assigned, octetsAt, destinationNumber, faulted, shows, beginAt, beginReceived, soundReceived, received, receivedIf, refuse, step}
+use Rattle.paper.specs.Calls.{Table, mayBegin, lowestFree, assigned, octetsAt, faulted, shows, beginAt, beginReceived, soundReceived, received, receivedIf, step}
 use Rattle.paper.specs.Calls.Call.{Receive}
 use Rattle.messages.specs.Bounds.{message-in}
 use Rattle.kept.specs.Leaves.{whether-eq, whether-lt, whether-b}
+
+-- one that is neither sound nor dropped has a P-Abort cause
+abbrev Coded : Message → Type 0
+Coded m = (m .fault ≡ isDropped → ⊥) → (m .fault ≡ isSound → ⊥) → m .fault < 5
 
 -- what is read keeps the type and the destination that were derived
 module _ (s : List ℕ) (o : Bool) (d : Derived) where
   record Of (m : Message) : Type 0 where
     tag : m .tag ≡ d .tag
     destination : m .destination ≡ d .destination
+    coded : Coded m
 
-  kept-of : (m : Message) → m .tag ≡ d .tag → m .destination ≡ d .destination → Of m
-  kept-of m p q = record { tag = p; destination = q }
+  fault-of : (c : ℕ) → Coded (faultOf d c) → Of (faultOf d c)
+  fault-of c h = record { tag = refl; destination = refl; coded = h }
+
+  bad-of : Of (faultOf d 2)
+  bad-of = fault-of 2 (λ a b. omega arith)
+
+  sound-of : (p : Run) (from to cause : ℕ) → Of (soundOf d p from to cause)
+  sound-of p from to cause = record { tag = refl; destination = refl; coded = λ a b. absurd (b refl) }
 
   closing-of : (p : ℕ) (m : Message) → Of m → Of (closing s o p d m)
-  closing-of p m h = whether-b Of _ _ _ h (kept-of _ refl refl)
+  closing-of p m h = whether-b Of _ _ _ h bad-of
 
   components-of : (portion : Run) (p : ℕ) → Of (componentsPart s o d portion p)
   unfolding componentsPart componentsBy
   components-of portion p =
-      whether-eq Of _ _ _ _ (whether-eq Of _ _ _ _ (kept-of _ refl refl) (closing-of _ _ (kept-of _ refl refl))) (whether-eq Of _ _ _ _ (kept-of _ refl refl) (closing-of _ _ (kept-of _ refl refl)))
+      whether-eq Of _ _ _ _ (whether-eq Of _ _ _ _ bad-of (closing-of _ _ (sound-of _ _ _ _))) (whether-eq Of _ _ _ _ bad-of (closing-of _ _ (sound-of _ _ _ _)))
 
   after-of : (p : ℕ) (r : Reading) → Of (afterPortion s o d p r)
-  after-of p (Fault f) = (kept-of _ refl refl)
-  after-of p (Ends x) = whether-eq Of _ _ _ _ (closing-of _ _ (kept-of _ refl refl)) (components-of _ x)
+  after-of p (Fault f) = bad-of
+  after-of p (Ends x) = whether-eq Of _ _ _ _ (closing-of _ _ (sound-of _ _ _ _)) (components-of _ x)
 
   abort-of : (p : ℕ) → Of (abortPart s o d p)
   unfolding abortPart
   abort-of p =
       whether-eq Of _ _ _ _
-      (whether-eq Of _ _ _ _ (whether-lt Of _ _ _ _ (whether-lt Of _ _ _ _ (closing-of _ _ (kept-of _ refl refl)) (kept-of _ refl refl)) (kept-of _ refl refl)) (kept-of _ refl refl))
-      (closing-of _ _ (kept-of _ refl refl))
+      (whether-eq Of _ _ _ _ (whether-lt Of _ _ _ _ (whether-lt Of _ _ _ _ (closing-of _ _ (sound-of _ _ _ _)) bad-of) bad-of) bad-of)
+      (closing-of _ _ (sound-of _ _ _ _))
 
   portion-of : (p : ℕ) → Of (portionPart s o d p)
   unfolding portionPart
@@ -61,35 +70,43 @@ module _ (s : List ℕ) (o : Bool) (d : Derived) where
   unfolding inOrder
   order-of b =
       whether-eq Of _ _ _ _ (portion-of b)
-      (whether-eq Of _ _ _ _ (whether-eq Of _ _ _ _ (kept-of _ refl refl) (portion-of _)) (whether-eq Of _ _ _ _ (kept-of _ refl refl) (portion-of _)))
+      (whether-eq Of _ _ _ _ (whether-eq Of _ _ _ _ bad-of (portion-of _)) (whether-eq Of _ _ _ _ bad-of (portion-of _)))
 
 -- "never in 61, 62": a Begin has no destination
-pub record Lone (m : Message) : Type 0 where
+pub record Read (m : Message) : Type 0 where
   pub lone : m .tag ≡ beginTag → m .destination .length ≡ 0
+  pub coded : (m .fault ≡ isDropped → ⊥) → (m .fault ≡ isSound → ⊥) → m .fault < 5
 
-derived-lone : (s : List ℕ) (o : Bool) (b : ℕ) (m : Message) → Of s o (derived s b) m → Lone m
+derived-read : (s : List ℕ) (o : Bool) (b : ℕ) (m : Message) → Of s o (derived s b) m → Read m
 unfolding derived destinationOf
-derived-lone s o b m h = record {
+derived-read s o b m h = record {
   lone = λ e.
       ap (λ (r : Run). r .length) (h .destination)
       ∙ sym (ap (λ (r : Run). r .length)
       (ne {r = noRun} (getD s 0 0) uniTag noRun _ (λ q. omega (arith, h .tag, e, q)) (eq (getD s 0 0) beginTag noRun _ (sym (h .tag) ∙ e) refl)));
+  coded = h .coded;
 }
 
-fault-lone : (s : List ℕ) (b c : ℕ) → Lone (faultOf (derived s b) c)
-fault-lone s b c = derived-lone s false b _ (kept-of s false (derived s b) _ refl refl)
+fault-read : (s : List ℕ) (b c : ℕ) → Coded (faultOf (derived s b) c) → Read (faultOf (derived s b) c)
+fault-read s b c h = derived-read s false b _ (fault-of s false (derived s b) c h)
 
-length-lone : (s : List ℕ) (n : Length) → Lone (byLength s n)
+dropped-read : (s : List ℕ) → Read (faultOf (derived s 0) isDropped)
+dropped-read s = fault-read s 0 isDropped (λ a b. absurd (a refl))
+
+unknown-read : (s : List ℕ) (b : ℕ) → Read (faultOf (derived s b) 0)
+unknown-read s b = fault-read s b 0 (λ a b. omega arith)
+
+length-read : (s : List ℕ) (n : Length) → Read (byLength s n)
 unfolding byLength
-length-lone s Wrong = fault-lone s 0 isDropped
-length-lone s (Until b) =
-    whether-eq Lone _ _ _ _ (whether-b Lone _ _ _ (derived-lone s true b _ (order-of s true (derived s b) b)) (fault-lone s b 0)) (fault-lone s 0 isDropped)
-length-lone s (Given b n) =
-    whether-b Lone _ _ _ (whether-eq Lone _ _ _ _ (derived-lone s false b _ (order-of s false (derived s b) b)) (fault-lone s b 2)) (fault-lone s b 0)
+length-read s Wrong = dropped-read s
+length-read s (Until b) =
+    whether-eq Read _ _ _ _ (whether-b Read _ _ _ (derived-read s true b _ (order-of s true (derived s b) b)) (unknown-read s b)) (dropped-read s)
+length-read s (Given b n) =
+    whether-b Read _ _ _ (whether-eq Read _ _ _ _ (derived-read s false b _ (order-of s false (derived s b) b)) (fault-read s b 2 (λ a b. omega arith))) (unknown-read s b)
 
-pub begin-lone : (s : List ℕ) → Lone (messageOf s)
+pub message-read : (s : List ℕ) → Read (messageOf s)
 unfolding messageOf
-begin-lone s = whether-eq Lone _ _ _ _ (fault-lone s 0 isDropped) (length-lone s (lengthAt s (length s) 1))
+message-read s = whether-eq Read _ _ _ _ (dropped-read s) (length-read s (lengthAt s (length s) 1))
 
 not-assigned : (T : Table) (service : ℕ) (s : List ℕ) (m : Message) → m .destination .length ≡ 0 → assigned T service s m ≡ false
 unfolding assigned
@@ -116,4 +133,4 @@ begin-step T service s h some few e b =
     m = messageOf s
 
     faults : faulted T service s m 4 ≡ shows [] (causeAbortOctets (octetsAt s (m .origin)) 4) T
-    faults = begin-faulted T service s m (message-in s m refl .begins e b) (begin-lone s .lone b)
+    faults = begin-faulted T service s m (message-in s m refl .begins e b) (message-read s .lone b)

@@ -4,12 +4,12 @@
 -- here speaks of another engine. Left to the host: that it hands the table on unaltered, and that spaces don't overlap.
 use mathlib.Core.Path.{_≡_, refl, sym, ap, subst, _∙_}
 use mathlib.Core.Bool.{Bool, true, false}
-use mathlib.Core.List.{List, [], _∷_}
+use mathlib.Core.List.{List, []}
 use mathlib.Core.Logic.{_⊎_, inl, inr, _↔_}
 use Prim.Native.Nat.{ℕ, zero, suc, _+_, _-_, _≤_, _<_}
 use native.Mathlib.Omega.{arith}
-use lib.ListN.{length, getD}
-use Rattle.laws.specs.If.{ifLt, ifEq, ifB, lt, eq, ge, yes, no, by-eq}
+use lib.ListN.{length, getD, take}
+use Rattle.laws.specs.If.{ifEq, ifB, lt, eq, ge, yes, no, by-eq}
 use Rattle.paper.specs.Sizes.{placesInAll, services}
 use Rattle.paper.specs.Shares.{gives, others, free, sharesFit}
 use Rattle.paper.specs.Calls.{Table, Call, Out, guaranteeOf, limitOf, held, mayBegin, opened, openedAt, lowestFree, refuse, shows, octetsAt, beginAt, step, freshTable}
@@ -17,16 +17,22 @@ use Rattle.paper.specs.Messages.{messageOf, isSound, beginTag}
 use Rattle.paper.specs.Writing.{causeAbortOctets}
 use Rattle.paper.specs.Calls.Call.{Open, OnDialogue, Receive}
 use Rattle.paper.specs.Layout.{encode, view}
-use Rattle.paper.specs.Outcome.{Lent, Outcome, spacesFor, standing, given, shown, refusedBy, outcome, noSpace}
-use Rattle.facts.specs.Fine.{Fine}
+use Rattle.paper.specs.Outcome.{Lent, Outcome, Gives, spacesFor, standing, given, shown, refusedBy, outcome, noSpace, one}
+use Rattle.facts.specs.Fine.{Octets, Fine}
 use Rattle.facts.specs.Whole.{view-encode}
 use Rattle.facts.specs.Ready.{Ready, encode-stands}
 use Rattle.paper.specs.Rules.{rules}
+use Rattle.readback.specs.Written.{Written}
+use Rattle.kept.specs.Requests.{Formed, requestOf}
 use Rattle.kept.specs.Steps.{WellFormed}
 use Rattle.kept.specs.Tables.{outcome-ready, ready-rules}
 use Rattle.shares.specs.Share.{Shares, Sound, below-given, refused-at-limit, refused-full, refused-why}
 use Rattle.kept.specs.Shared.{shares as fine-shares, sound as fine-sound}
 use Rattle.kept.specs.Fresh.{fresh-fine, fresh-none}
+use Rattle.demands.specs.Stands.{Stands, not-refused}
+use Rattle.demands.specs.Put.{putIn, ReadBack}
+use Rattle.demands.specs.Answered.{outcome-sent}
+use Rattle.demands.specs.Passed.{waitingOf, Passed, outcome-passed}
 use Rattle.demands.specs.Begins.{begin-step}
 use Rattle.demands.specs.History.{Made, gave, after, begunOf, endedOf, AllFormed, Reached, history}
 
@@ -41,9 +47,36 @@ refusal-changes-nothing l c = stand (standing l (spacesFor c))
         by-eq {r = shown 0 l (step (view (l .table)) c)} (step (view (l .table)) c .answer) 0 (given l (step (view (l .table)) c)) (refusedBy (step (view (l .table)) c .answer) l) refl
         (λ z e. absurd (h (ap (λ (x : Outcome). x .answer) e))) (λ z e. ap (λ (x : Outcome). x .lent) e)
 
+-- DEMAND 2: where the spaces have the right sizes and the table keeps the rules, the outcome is the definitions' step
+pub outcome-is-step : (l : Lent) (c : Call) → Stands l (spacesFor c) → outcome l c ≡ shown 0 l (step (view (l .table)) c)
+unfolding outcome
+outcome-is-step l c w = ap (λ (n : ℕ). shown n l (step (view (l .table)) c)) (not-refused l (spacesFor c) w)
+
+-- any two outcomes that the contract of a call allows are equal: reply, table, rows and message space
+pub same-outcome : (l : Lent) (c : Call) {a b r q n m d e : ℕ} {k j : Lent} → Gives (outcome l c) a r n d k → Gives (outcome l c) b q m e j
+    → (a ≡ b) × (r ≡ q) × (n ≡ m) × (d ≡ e) × (k ≡ j)
+same-outcome l c = one
+
 -- DEMAND 2, the table: what a call leaves of a table that keeps the rules keeps them, so that a table handed on is never refused by 2
 pub never-broken : (l : Lent) (c : Call) → WellFormed c → Ready (l .table) → rules (outcome l c .lent .table) ≡ true
 never-broken l c w r = ready-rules (outcome l c .lent .table) (outcome-ready l c w r)
+
+-- DEMAND 2, the messages: "each message written by any call is read back as the components and IDs put in", whatever octets were
+-- lent as a table. It stands at the start of the message space; `messageOf`, by which a received message is read, reads it as what
+-- the call puts in (Put.antt), and it is none exactly where that is none
+pub read-back : (l : Lent) (c : Call) → Octets (l .table) → outcome l c .answer ≡ 0
+    → ReadBack (take (outcome l c .length) (outcome l c .lent .space)) (putIn (view (l .table)) c)
+read-back l c o = outcome-sent l c o .1
+
+-- it has at most 272 octets, and a call that takes no message space writes none
+pub message-fits : (l : Lent) (c : Call) → Octets (l .table) → outcome l c .length ≤ spacesFor c .space
+message-fits l c o = outcome-sent l c o .0
+
+-- a component passed waits after those that waited, and is listed as what was put in
+pub passed-read-back : (l : Lent) (service dialogue class : ℕ) (v : Written) → Formed (requestOf class v) → Octets (l .table)
+    → outcome l (OnDialogue service dialogue (requestOf class v)) .answer ≡ 0
+    → Passed (waitingOf (l .table) dialogue) v (waitingOf (outcome l (OnDialogue service dialogue (requestOf class v)) .lent .table) dialogue)
+passed-read-back = outcome-passed
 
 -- an open by a service, as a host makes it
 abbrev pub asks : ℕ → Made
@@ -181,10 +214,14 @@ module _ (g l : List ℕ) (a : length g ≡ 16) (b : length l ≡ 16)
     abbrev begins : Made
     begins = record { call = Receive s msg; rows = rows; space = space }
 
+    -- what it is answered
+    abbrev pub reply : Outcome
+    reply = gave (after start ms) begins
+
     abbrev lent : Lent
     lent = record { table = encode (reached .to); rows = rows; space = space }
 
-    begin-is : (o : Out) → step (reached .to) (Receive s msg) ≡ o → o .answer ≡ 0 → gave (after start ms) begins ≡ given lent o
+    begin-is : (o : Out) → step (reached .to) (Receive s msg) ≡ o → o .answer ≡ 0 → reply ≡ given lent o
     begin-is o e z =
         ap (λ (t : List ℕ). gave t begins) (reached .table) ∙ received (reached .to) (reached .fine) s msg rows space wide long
         ∙ ap (shown 0 lent) e ∙ sym (eq _ _ _ _ z refl)
@@ -197,17 +234,17 @@ module _ (g l : List ℕ) (a : length g ≡ 16) (b : length l ≡ 16)
 
     -- where the rule gives, the dialogue begins: the outcome is that of a Begin with a place, whose first row is BEGIN
     pub begin-given : gives placesInAll services guarantee limit dialogues s ≡ true
-        → gave (after start ms) begins ≡ given lent (beginAt (reached .to) s (lowestFree (reached .to)) msg (messageOf msg))
+        → reply ≡ given lent (beginAt (reached .to) s (lowestFree (reached .to)) msg (messageOf msg))
     unfolding beginAt
     begin-given e = begin-is _ (by-rule true e ∙ sym (yes true _ _ refl refl)) refl
 
     -- else it is refused with cause 4: no row, an Abort to its originating ID, the table as it was
     pub begin-refused : gives placesInAll services guarantee limit dialogues s ≡ false
-        → gave (after start ms) begins ≡ given lent (shows [] (causeAbortOctets (octetsAt msg (messageOf msg .origin)) 4) (reached .to))
+        → reply ≡ given lent (shows [] (causeAbortOctets (octetsAt msg (messageOf msg .origin)) 4) (reached .to))
     begin-refused e = begin-is _ (by-rule false e ∙ sym (no false _ _ refl refl)) refl
 
     -- below its guarantee never; at or above it exactly as an open
-    pub begin-never-refused : dialogues s < guarantee s → gave (after start ms) begins ≡ given lent (beginAt (reached .to) s (lowestFree (reached .to)) msg (messageOf msg))
+    pub begin-never-refused : dialogues s < guarantee s → reply ≡ given lent (beginAt (reached .to) s (lowestFree (reached .to)) msg (messageOf msg))
     begin-never-refused q = begin-given (below-given placesInAll services guarantee limit dialogues s q)
 
     pub begin-refused-exactly : guarantee s ≤ dialogues s

@@ -1,32 +1,30 @@
 -- HISTORIES OF CALLS, at octets: what a host that hands the table on unaltered sees. Assumes nothing.
 use mathlib.Core.Path.{_≡_, refl, sym, ap, subst, _∙_}
-use mathlib.Core.Bool.{Bool, true, false}
 use mathlib.Core.List.{List, [], _∷_}
 use mathlib.Core.Logic.{_⊎_, inl, inr}
-use Prim.Native.Nat.{ℕ, zero, suc, _+_, _*_, _≤_, _<_}
+use Prim.Native.Nat.{ℕ, zero, suc, _+_, _*_, _≤_}
 use native.Mathlib.Omega.{arith}
-use lib.ListN.{length, getD}
+use lib.ListN.{length}
 use lib.Seq.{sets}
-use Rattle.laws.specs.If.{ifLt, ifEq, ifB, lt, ge, eq, ne, yes, by-eq, by-lt, was-eq, was-ge}
+use Rattle.laws.specs.If.{ifEq, eq, ne}
 use Rattle.laws.specs.Sums.{sumBy}
 use Rattle.paper.specs.declared.Row.{Row}
 use Rattle.paper.specs.Sizes.{services, placeOf}
 use Rattle.paper.specs.Rows.{rowsOctets, rowBegin, rowEnd, rowUserAbort, rowAbort}
-use Rattle.paper.specs.Dialogues.{Place, Request, Done, refusal, does, request, unlessRefused}
+use Rattle.paper.specs.Dialogues.{Place, Request, refusal, does, request, unlessRefused}
 use Rattle.paper.specs.Dialogues.Request.{Invoke, Result, Error, UserReject, Cancel, Begin, Continue, End, Prearranged, Abort, Unidirectional, Timeout, RejectTimeout, NoReaction}
 use Rattle.paper.specs.Calls.{Table, Call, Out, placeAt, held, stored, requested, opened, step}
 use Rattle.paper.specs.Calls.Call.{Open, OnDialogue, Receive}
 use Rattle.paper.specs.Layout.{encode, view}
-use Rattle.paper.specs.Rules.{rules}
-use Rattle.paper.specs.Outcome.{Lent, Spaces, Outcome, spacesOf, spacesFor, standing, given, shown, refusedBy, outcome}
-use Rattle.facts.specs.Fine.{Fine, Octets}
+use Rattle.paper.specs.Outcome.{Lent, Outcome, spacesOf, spacesFor, standing, given, shown, refusedBy, outcome}
+use Rattle.facts.specs.Fine.{Fine}
 use Rattle.facts.specs.Whole.{view-encode}
-use Rattle.facts.specs.Ready.{encode-stands}
 use Rattle.kept.specs.Leaves.{whether-lt, whether-b}
 use Rattle.paper.specs.Counting.{isBegun, isEnded, openedBy, endsBy, serviceOf, begunBy, endedBy}
 use Rattle.kept.specs.Steps.{WellFormed, Left, step-left, step-counted}
-use Rattle.demands.specs.Rows.{sumKinds, kinds-back, noRow}
+use Rattle.demands.specs.Rows.{sumKinds, kinds-back}
 use Rattle.demands.specs.Fits.{Fit, step-fit}
+use Rattle.demands.specs.Stands.{stands}
 
 -- A CALL AS A HOST MAKES IT: beside the table it lends a row space and a message space, of any sizes
 pub record Made : Type 0 where
@@ -157,20 +155,14 @@ unfolding step opened
 quiet-open T service = whether-lt Quiet service services _ _ (whether-b Quiet _ _ _ refl refl) refl
 
 -- the rows of a call that isn't refused for a size fit into the row space
-stands-rows : (l : Lent) (n : Spaces) → standing l n ≡ 0 → n .rows ≤ length (l .rows)
-unfolding standing
-stands-rows l n e =
-    let a = was-eq _ _ _ _ (sym e) (λ h. omega arith) in
-    was-ge _ _ _ _ (a .1) (λ h. omega arith) .0
-
 few-rows : (rs : List Row) (l : Lent) → rs ≡ [] → 32 * length rs ≤ length (l .rows)
 few-rows rs l e = omega (arith, ap (λ (x : List Row). length x) e)
 
 rows-fit : (T : Table) (l : Lent) (c : Call) → WellFormed c → standing l (spacesFor c) ≡ 0 → 32 * length (step T c .rows) ≤ length (l .rows)
 rows-fit T l (Open service) o e = few-rows _ l (quiet-open T service)
-rows-fit T l (Receive service s) o e = omega (arith, step-fit T (Receive service s) o .few, stands-rows l (spacesFor (Receive service s)) e)
+rows-fit T l (Receive service s) o e = omega (arith, step-fit T (Receive service s) o .few, stands l (spacesFor (Receive service s)) e .rows)
 rows-fit T l (OnDialogue service dialogue r) o e =
-    by-space (spacesOf r .rows) refl (omega (arith, step-fit T (OnDialogue service dialogue r) o .few)) (stands-rows l (spacesOf r) e) (either r)
+    by-space (spacesOf r .rows) refl (omega (arith, step-fit T (OnDialogue service dialogue r) o .few)) (stands l (spacesOf r) e .rows) (either r)
   where
     either : (r : Request) → (spacesOf r .rows ≡ 0) ⊎ (spacesOf r .rows ≡ 4096)
     either (Invoke id linked class op par) = inl refl

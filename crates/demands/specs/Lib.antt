@@ -1,5 +1,10 @@
+pub mod Stands
 pub mod Rows
 pub mod Fits
 pub mod Begins
+pub mod Put
+pub mod Sent
+pub mod Answered
+pub mod Passed
 pub mod History
 pub mod Demands

@@ -180,7 +180,7 @@ fn short_head(s: &[u8], lim: usize, at: usize) -> Head
 }
 
 // The tag and length of the element at a position; most are short.
-pub fn head_at(s: &[u8], lim: usize, at: usize) -> Head
+fn head_at(s: &[u8], lim: usize, at: usize) -> Head
     requires { ⌜ lim ≤ length (now s) ⌝ }
     ensures is { λ r. ⌜ r ≡ headAt (now (s .entry)) lim at ⌝ }
     ensures within { λ r. ⌜ HeadIn at lim r ⌝ }

@@ -16,11 +16,11 @@ pub struct Reply {
 }
 
 // A refusal.
-pub fn refused(answer: u32) -> Reply
-    ensures { λ r. ⌜ r ≡ reply answer 0 0 0 ⌝ }
+pub fn refused(number: u32) -> Reply
+    ensures { λ r. ⌜ r ≡ reply number 0 0 0 ⌝ }
 {
     Reply {
-        answer: answer,
+        answer: number,
         rows: 0,
         length: 0,
         dialogue: 0,

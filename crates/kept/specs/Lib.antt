@@ -4,6 +4,7 @@ pub mod Leaves
 pub mod Acts
 pub mod Stored
 pub mod Carried
+pub mod Listed
 pub mod Waiting
 pub mod Requests
 pub mod Counted

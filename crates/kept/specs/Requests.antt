@@ -81,6 +81,52 @@ begun-fine turn state service peerlen peer a b c d e =
 pub place-fine : (c : Control) → FineControl c → (c .state ≡ 0 → ⊥) → FinePlace (record { control = c; waiting = [] })
 place-fine c f n = record { control = f; room = omega arith; whole = kept-none [] refl; free = λ e. absurd (n e) }
 
+-- WHAT A COMPONENT THAT ISN'T REFUSED IS: one whose parts the rules allow, with room for it
+module _ (x : Place) where
+  abbrev Taken : Written → Type 0
+  Taken v = Allowed v × (overfull x (octetsOf v) ≡ 0)
+
+  invoke-told : (id linked class : ℕ) (op par : List ℕ) → id < 256 → linked ≤ noID → invokeRefusal x id linked class op par ≡ 0
+      → (1 ≤ class) × (class ≤ 4) × (stateOf (x .control) id ≡ 0) × Taken (Written.Invoke id linked op par)
+  unfolding invokeRefusal octetsOf
+  invoke-told id linked class op par h g e =
+      let a = was-ge _ _ _ _ (sym e) (λ z. omega arith) in
+      let b = was-ge _ _ _ _ (a .1) (λ z. omega arith) in
+      let c = was-eq _ _ _ _ (b .1) (λ z. omega arith) in
+      by-eq _ _ _ _ (c .1) (λ z w. absurd (omega arith))
+      (λ z w.
+      let k = was-yes _ _ _ w (λ z. omega arith) in
+      let p = was-yes _ _ _ (k .1) (λ z. omega arith) in
+      (a .0, b .0, c .0, ((h, g, k .0, p .0), sym (p .1))))
+
+  result-told : (tag id : ℕ) (op par : List ℕ) → ResultTag tag → id < 256 → resultRefusal x tag id op par ≡ 0 → Taken (Written.Result tag id op par)
+  unfolding resultRefusal octetsOf
+  result-told tag id op par t h e =
+      by-eq _ _ _ _ (sym e) (λ z w. absurd (omega arith)) (λ z w. let k = was-yes _ _ _ w (λ z. omega arith) in ((t, h, k .0), sym (k .1)))
+
+  error-told : (id : ℕ) (err par : List ℕ) → id < 256 → errorRefusal x id err par ≡ 0 → Taken (Written.Error id err par)
+  unfolding errorRefusal octetsOf
+  error-told id err par h e =
+      by-eq _ _ _ _ (sym e) (λ z w. absurd (omega arith))
+      (λ z w.
+      let k = was-yes _ _ _ w (λ z. omega arith) in
+      let p = was-yes _ _ _ (k .1) (λ z. omega arith) in
+      ((h, k .0, p .0), sym (p .1)))
+
+  reject-told : (id p : ℕ) → id ≤ noID → rejectRefusal x id p ≡ 0
+      → (mayReject (kindOf p) (invocationOf (x .control .invocations) id) ≡ true) × Taken (Written.Reject id p)
+  unfolding rejectRefusal octetsOf
+  reject-told id p h e =
+      by-eq _ _ _ _ (sym e) (λ z w. absurd (omega arith))
+      (λ z w.
+      let s = was-eq _ _ _ _ w (λ z. omega arith) in
+      let k = was-yes _ _ _ (s .1) (λ z. omega arith) in
+      (k .0, ((h, λ z. omega (arith, s .0)), sym (k .1))))
+
+  pub fits : (l : List ℕ) → overfull x l ≡ 0 → length (x .waiting) + length l ≤ 240
+  unfolding overfull
+  fits l e = was-ge _ _ _ _ (sym e) (λ z. omega arith) .0
+
 module _ (x : Place) (f : FinePlace x) (used : x .control .state ≡ 0 → ⊥) where
   -- ITS CONTROL RECORD CHANGED
   pub control-goes-on : (c : Control) → FineControl c → (c .state ≡ 0 → ⊥) → c .service ≡ x .control .service → GoesOn x (withControl x c)
@@ -91,14 +137,10 @@ module _ (x : Place) (f : FinePlace x) (used : x .control .state ≡ 0 → ⊥) 
   }
 
   -- A COMPONENT PASSED
-  fits : (l : List ℕ) → overfull x l ≡ 0 → length (x .waiting) + length l ≤ 240
-  unfolding overfull
-  fits l e = was-ge _ _ _ _ (sym e) (λ z. omega arith) .0
-
   pass-goes-on : (c : Control) → Stays (x .control) c → (w : Written) → Allowed w → overfull x (octetsOf w) ≡ 0
       → GoesOn x (record { control = c; waiting = x .waiting ++ octetsOf w })
   pass-goes-on c s w a e =
-      let n = fits (octetsOf w) e in
+      let n = fits x (octetsOf w) e in
       record {
         fine = record {
           control = s .fine;
@@ -116,34 +158,25 @@ module _ (x : Place) (f : FinePlace x) (used : x .control .state ≡ 0 → ⊥) 
 
   invoke-goes-on : (id linked class : ℕ) (op par : List ℕ) → id < 256 → linked ≤ noID → invokeRefusal x id linked class op par ≡ 0
       → GoesOn x (record { control = passed (x .control) id class; waiting = x .waiting ++ invokeOctets id linked op par })
-  unfolding invokeRefusal passed octetsOf
+  unfolding passed octetsOf
   invoke-goes-on id linked class op par h g e =
-      let a = was-ge _ _ _ _ (sym e) (λ z. omega arith) in
-      let b = was-ge _ _ _ _ (a .1) (λ z. omega arith) in
-      let c = was-eq _ _ _ _ (b .1) (λ z. omega arith) in
-      by-eq _ _ _ _ (c .1) (λ z w. absurd (omega arith))
-      (λ z w.
-      let k = was-yes _ _ _ w (λ z. omega arith) in
-      let p = was-yes _ _ _ (k .1) (λ z. omega arith) in
-      pass-goes-on (passed (x .control) id class) (record { fine = passed-fine (x .control) (f .control) id class (c .0) (a .0) (b .0); state = refl; service = refl })
-      (Written.Invoke id linked op par) (h, g, k .0, p .0) (sym (p .1)))
+      let (least, most, idle, parts) = invoke-told x id linked class op par h g e in
+      pass-goes-on (passed (x .control) id class) (record { fine = passed-fine (x .control) (f .control) id class idle least most; state = refl; service = refl })
+      (Written.Invoke id linked op par) (parts .0) (parts .1)
 
   result-goes-on : (tag id : ℕ) (op par : List ℕ) → ResultTag tag → id < 256 → resultRefusal x tag id op par ≡ 0
       → GoesOn x (record { control = x .control; waiting = x .waiting ++ resultOctets tag id op par })
-  unfolding resultRefusal octetsOf
+  unfolding octetsOf
   result-goes-on tag id op par t h e =
-      by-eq _ _ _ _ (sym e) (λ z w. absurd (omega arith))
-      (λ z w. let k = was-yes _ _ _ w (λ z. omega arith) in pass-goes-on (x .control) (unchanged (x .control) (f .control)) (Written.Result tag id op par) (t, h, k .0) (sym (k .1)))
+      let parts = result-told x tag id op par t h e in
+      pass-goes-on (x .control) (unchanged (x .control) (f .control)) (Written.Result tag id op par) (parts .0) (parts .1)
 
   error-goes-on : (id : ℕ) (err par : List ℕ) → id < 256 → errorRefusal x id err par ≡ 0
       → GoesOn x (record { control = x .control; waiting = x .waiting ++ errorOctets id err par })
-  unfolding errorRefusal octetsOf
+  unfolding octetsOf
   error-goes-on id err par h e =
-      by-eq _ _ _ _ (sym e) (λ z w. absurd (omega arith))
-      (λ z w.
-      let k = was-yes _ _ _ w (λ z. omega arith) in
-      let p = was-yes _ _ _ (k .1) (λ z. omega arith) in
-      pass-goes-on (x .control) (unchanged (x .control) (f .control)) (Written.Error id err par) (h, k .0, p .0) (sym (p .1)))
+      let parts = error-told x id err par h e in
+      pass-goes-on (x .control) (unchanged (x .control) (f .control)) (Written.Error id err par) (parts .0) (parts .1)
 
   -- one that may be rejected is in use, but an invoke's reject needs none
   may-used : (id kind : ℕ) → (kind ≡ 1 → ⊥) → mayReject kind (invocationOf (x .control .invocations) id) ≡ true → stateOf (x .control) id ≡ 0 → ⊥
@@ -162,13 +195,10 @@ module _ (x : Place) (f : FinePlace x) (used : x .control .state ≡ 0 → ⊥) 
 
   reject-goes-on : (id p : ℕ) → id ≤ noID → rejectRefusal x id p ≡ 0
       → GoesOn x (record { control = rejectedBy (x .control) id p; waiting = x .waiting ++ rejectOctets id p })
-  unfolding rejectRefusal octetsOf
+  unfolding octetsOf
   reject-goes-on id p h e =
-      by-eq _ _ _ _ (sym e) (λ z w. absurd (omega arith))
-      (λ z w.
-      let s = was-eq _ _ _ _ w (λ z. omega arith) in
-      let k = was-yes _ _ _ (s .1) (λ z. omega arith) in
-      pass-goes-on (rejectedBy (x .control) id p) (rejected-by-stays id p (k .0)) (Written.Reject id p) (h, λ z. omega (arith, s .0)) (sym (k .1)))
+      let (may, parts) = reject-told x id p h e in
+      pass-goes-on (rejectedBy (x .control) id p) (rejected-by-stays id p may) (Written.Reject id p) (parts .0) (parts .1)
 
   -- A SENDING, to a state with a peer as before
   sent-goes-on : (state : ℕ) → 0 < state → state < 5 → hasPeer state ≡ hasPeer (x .control .state) → GoesOn x (afterSending x state)
@@ -211,6 +241,20 @@ Formed Unidirectional = Unit
 Formed (Timeout id) = Unit
 Formed (RejectTimeout id) = Unit
 Formed NoReaction = Unit
+
+-- the request that passes a component, an invoke with its class; what it isn't refused for
+abbrev pub requestOf : ℕ → Written → Request
+requestOf class (Written.Invoke id linked op par) = Invoke id linked class op par
+requestOf class (Written.Result tag id op par) = Result tag id op par
+requestOf class (Written.Error id err par) = Error id err par
+requestOf class (Written.Reject id p) = UserReject id p
+
+pub passed-taken : (x : Place) (class : ℕ) (v : Written) → Formed (requestOf class v) → refusal x (requestOf class v) ≡ 0 → Allowed v × (overfull x (octetsOf v) ≡ 0)
+unfolding refusal
+passed-taken x class (Written.Invoke id linked op par) w e = invoke-told x id linked class op par (w .0) (w .1) e .3
+passed-taken x class (Written.Result tag id op par) w e = result-told x tag id op par (w .0) (w .1) e
+passed-taken x class (Written.Error id err par) w e = error-told x id err par w e
+passed-taken x class (Written.Reject id p) w e = reject-told x id p (omega arith) e .1
 
 -- those that free the place
 abbrev pub frees : Request → Bool

@@ -29,7 +29,7 @@ use Rattle.kept.specs.Counted.{row-begun, row-ended, row-other, componen
 use Rattle.kept.specs.Shared.{Moved, moved-as, not-moved, moved-freed, moved-on, moved-taken, lowest-there}
 
 -- A REQUEST THAT IS DONE answers 0, begins nothing, and ends a dialogue where it frees the place
-does-answers : (me : ℕ) (x : Place) (r : Request) → does me x r .answer ≡ 0
+pub does-answers : (me : ℕ) (x : Place) (r : Request) → does me x r .answer ≡ 0
 unfolding does
 does-answers me x (Invoke id linked class op par) = refl
 does-answers me x (Result tag id op par) = refl

@@ -1,16 +1,11 @@
 // The table's size, a fresh table, and the request that takes a place (01, "Dialogue states": "Open takes a place").
 use entry::Reply;
-use paper::Control;
 use paper::GUARANTEES;
-use paper::Invocation;
 use paper::LIMITS;
-use paper::Reject;
 use paper::TABLE_OCTETS;
 ghost use mathlib.Core.Path.{_≡_};
 ghost use mathlib.Core.List.{[]};
-ghost use Prim.Native.Nat.{ℕ, _<_};
-ghost use lib.ListN.{length, getD};
-ghost use Rattle.paper.specs.Shares.{sharesFit};
+ghost use lib.ListN.{length};
 ghost use Rattle.paper.specs.Dialogues.{begun};
 ghost use Rattle.paper.specs.Calls.{freshTable};
 ghost use Rattle.paper.specs.Calls.Call.{Open};
@@ -22,34 +17,6 @@ pub fn table_size() -> usize
     ensures { λ r. ⌜ r ≡ tableSize ⌝ }
 {
     TABLE_OCTETS
-}
-
-fn wide(x: u8) -> u32
-    ensures { λ r. ⌜ (r ≡ x) × (r < 256) ⌝ }
-{
-    x as u32
-}
-
-// Not so: "a guarantee above its limit, a limit above 128, or guarantees over 128 together" (13).
-fn shares_fit(g: &[u8], l: &[u8]) -> bool
-    requires { ⌜ (length (now g) ≡ 16) × (length (now l) ≡ 16) ⌝ }
-    ensures { λ r. ⌜ r ≡ sharesFit 128 16 (λ k. getD (now (g .entry)) k 0) (λ k. getD (now (l .entry)) k 0) ⌝ }
-{
-    let mut sum: u32 = 0;
-    let mut k: usize = 0;
-    while k < 16 {
-        let guarantee = g[k];
-        let limit = l[k];
-        if limit < guarantee {
-            return false;
-        }
-        if limit > 128 {
-            return false;
-        }
-        sum = sum + wide(guarantee);
-        k += 1;
-    }
-    return sum <= 128;
 }
 
 fn fresh_answer(t: &[u8], g: &[u8], l: &[u8]) -> u32
@@ -64,7 +31,7 @@ fn fresh_answer(t: &[u8], g: &[u8], l: &[u8]) -> u32
     if l.len() != 16 {
         return 1;
     }
-    if shares_fit(g, l) {
+    if shares::shares_fit(g, l) {
         return 0;
     }
     return 13;
@@ -94,31 +61,6 @@ pub fn fresh(table: &mut [u8], guarantees: &[u8], limits: &[u8]) -> Reply
     return entry::done(0, 0);
 }
 
-// The control record of a dialogue that is begun in a free place.
-pub fn begun(turn: u32, state: u8, service: u8, peerlen: u8, peer: [u8; 4]) -> Control
-    ensures { λ r. ⌜ r ≡ begun turn state service peerlen peer ⌝ }
-{
-    let v = Invocation {
-        id: 0,
-        class: 0,
-        state: 0,
-        shown: 0,
-    };
-    let w = Reject { id: 0, problem: 0 };
-    let invocations: [Invocation; 8] = [v; 8];
-    let rejects: [Reject; 8] = [w; 8];
-    Control {
-        turn: turn,
-        state: state,
-        service: service,
-        peerlen: peerlen,
-        peer: peer,
-        count: 0,
-        invocations: invocations,
-        rejects: rejects,
-    }
-}
-
 // "A free place is found in a map ..; the lowest is taken." 7 where the share rule gives none.
 pub fn open(table: &mut [u8], service: u32) -> Reply
     ensures { λ r. ⌜ Gives (outcome (record { table = now (table .entry); rows = []; space = [] }) (Open service)) (r .answer) (r .rows) (r .length) (r .dialogue) (record { table = now (table .exit); rows = []; space = [] }) ⌝ }
@@ -134,7 +76,7 @@ pub fn open(table: &mut [u8], service: u32) -> Reply
         let id = places::id_at(table, p);
         let turn = places::turn_at(table, p);
         let none: [u8; 4] = [0; 4];
-        let c = begun(turn, 1, service as u8, 0, none);
+        let c = places::begun(turn, 1, service as u8, 0, none);
         places::begin_at(table, p, c);
         return Reply {
             answer: 0,

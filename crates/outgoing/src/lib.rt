@@ -1,7 +1,6 @@
 // What a sending writes after a message's head, and what it leaves of the dialogue (01, "Dialogue states").
 use paper::Component;
 use paper::Control;
-use paper::Reading;
 use paper::Reject;
 ghost use mathlib.Core.Path.{_≡_};
 ghost use Prim.Native.Nat.{_+_, _<_, _≤_};
@@ -9,7 +8,7 @@ ghost use lib.ListN.{length};
 ghost use Rattle.laws.specs.Runs.{Wrote};
 ghost use Rattle.laws.specs.Lists.{every};
 ghost use Rattle.paper.specs.Components.{components};
-ghost use Rattle.paper.specs.Dialogues.{isPortion, ofClass4, uniRefusal, abortRefusal, waitingRejects, rejectsFit, sentComponents, withState, withoutRejects, afterSending};
+ghost use Rattle.paper.specs.Dialogues.{ofClass4, uniRefusal, abortRefusal, waitingRejects, rejectsFit, sentComponents, withState, withoutRejects, afterSending};
 ghost use Rattle.paper.specs.Calls.{placeAt, withPlace};
 ghost use Rattle.paper.specs.Layout.{encode, view};
 ghost use Rattle.facts.specs.Fine.{FineControl};
@@ -182,32 +181,11 @@ pub fn uni_refusal(t: &[u8], p: usize, c: Control) -> u32
     return 6;
 }
 
-// "a whole 6B element or none"
-fn is_portion(s: &[u8]) -> bool
-    ensures { λ r. ⌜ r ≡ isPortion (now (s .entry)) ⌝ }
-{
-    let n = s.len();
-    if n == 0 {
-        return true;
-    }
-    if s[0] != 0x6B {
-        return false;
-    }
-    match elements::element(s, 16, n, 0) {
-        Reading::Ends(e) => {
-            return e == n;
-        }
-        Reading::Fault(_) => {
-            return false;
-        }
-    }
-}
-
 // A user abort's dialogue portion: not one well-formed element of its kind (11), over 240 octets (12).
 pub fn abort_refusal(portion: &[u8]) -> u32
     ensures { λ r. ⌜ r ≡ abortRefusal (now (portion .entry)) ⌝ }
 {
-    if is_portion(portion) {
+    if given::is_portion(portion) {
         if portion.len() > 240 {
             return 12;
         }

@@ -7,18 +7,17 @@ use paper::PLACE_OCTETS;
 use paper::PLACES;
 use paper::REJECTS;
 use paper::Reject;
-use paper::WAITING;
 ghost use mathlib.Core.Path.{_≡_};
-ghost use mathlib.Core.List.{[], _∷_, _++_};
-ghost use Prim.Native.Nat.{ℕ, _+_, _*_, _-_, _/_, _%_, _≤_, _<_};
-ghost use lib.ListN.{length, getD, replicate, take, drop};
+ghost use mathlib.Core.List.{[], _∷_};
+ghost use Prim.Native.Nat.{_+_, _*_, _/_, _%_, _≤_, _<_};
+ghost use lib.ListN.{length, getD, replicate};
 ghost use lib.Seq.{sets};
 ghost use Rattle.laws.specs.Lists.{span};
 ghost use Rattle.laws.specs.Parts.{over};
 ghost use Rattle.paper.specs.Sizes.{localID, nextTurn};
-ghost use Rattle.paper.specs.Dialogues.{withControl, freed};
+ghost use Rattle.paper.specs.Dialogues.{withControl, freed, begun};
 ghost use Rattle.paper.specs.Shares.{free};
-ghost use Rattle.paper.specs.Calls.{placeAt, withPlace, isDialogue, owns, held, lowestFree};
+ghost use Rattle.paper.specs.Calls.{placeAt, withPlace, isDialogue, owns, lowestFree};
 ghost use Rattle.paper.specs.Layout.{placeStart, placeOctets, invocationBy, invocationsAt, rejectBy, rejectsAt, controlBy, placeBy, flag, encode, view};
 ghost use Rattle.facts.specs.Fine.{Storable};
 ghost use Rattle.facts.specs.Octets.{controlOctets};
@@ -226,19 +225,37 @@ pub fn owner(t: &[u8], service: u32, dialogue: u32) -> bool
     return is_dialogue(&t[a..e], service, dialogue % 16777216);
 }
 
-// The lowest free place, 128 where there is none; and how many are free.
+// The control record of a dialogue that is begun in a free place.
+pub fn begun(turn: u32, state: u8, service: u8, peerlen: u8, peer: [u8; 4]) -> Control
+    ensures { λ r. ⌜ r ≡ begun turn state service peerlen peer ⌝ }
+{
+    let v = Invocation {
+        id: 0,
+        class: 0,
+        state: 0,
+        shown: 0,
+    };
+    let w = Reject { id: 0, problem: 0 };
+    let invocations: [Invocation; 8] = [v; 8];
+    let rejects: [Reject; 8] = [w; 8];
+    Control {
+        turn: turn,
+        state: state,
+        service: service,
+        peerlen: peerlen,
+        peer: peer,
+        count: 0,
+        invocations: invocations,
+        rejects: rejects,
+    }
+}
+
+// The lowest free place, 128 where there is none.
 pub fn lowest_place(t: &[u8]) -> usize
     requires { ⌜ Ready (now t) ⌝ }
     ensures { λ r. ⌜ (r ≡ lowestFree (view (now (t .entry)))) × (r ≤ 128) ⌝ }
 {
     freemap::lowest_free(t)
-}
-
-pub fn free_places(t: &[u8]) -> u32
-    requires { ⌜ Ready (now t) ⌝ }
-    ensures { λ r. ⌜ (r ≡ free 128 16 (held (view (now (t .entry)) .places))) × (r ≤ 128) ⌝ }
-{
-    freemap::free_count(t)
 }
 
 // ---- STORED
@@ -379,18 +396,6 @@ pub fn store_control(t: &mut [u8], p: usize, c: Control)
     let a = PLACES + p * PLACE_OCTETS;
     let n = t[a + 10];
     put_control(t, p, c, n);
-}
-
-// The control record of a dialogue, and octets after those that wait.
-pub fn pass_at(t: &mut [u8], p: usize, c: Control, octets: &[u8])
-    requires { ⌜ Storing 0 (now t) p c × (length (placeAt (view (now t)) p .waiting) + length (now octets) ≤ 240) ⌝ }
-    ensures { λ r. ⌜ now (t .exit) ≡ encode (withPlace (view (now (t .entry))) p (withWaiting c (placeAt (view (now (t .entry))) p .waiting ++ now (octets .entry)))) ⌝ }
-{
-    let a = PLACES + p * PLACE_OCTETS;
-    let n = wide(t[a + 10]);
-    let m = n + octets.len();
-    put(t, a + (WAITING + n), octets);
-    put_control(t, p, c, m as u8);
 }
 
 // The control record of a dialogue, and no waiting octets.

@@ -51,11 +51,11 @@ pub fn finish(octets: &[u8], l: Line)
     requires { ⌜ LineIn (length (now octets)) l ⌝ }
 {
     if l.bad {
-        show::bad(l.number);
+        text::bad(l.number, b' ');
         return;
     }
     if l.digit < 16 {
-        show::bad(l.number);
+        text::bad(l.number, b' ');
         return;
     }
     let n = l.count;

@@ -4,16 +4,7 @@ ghost use lib.ListN.{length};
 ghost use Rattle.messages.specs.Bounds.{MessageIn};
 use paper::Component;
 use paper::Message;
-use paper::Row;
 use paper::Run;
-use reader::Piece;
-
-fn number(out: &mut [u8], at: usize, n: u64) -> usize
-    ensures { λ r. ⌜ r ≤ length (now (out .exit)) ⌝ }
-{
-    let a = text::put(out, at, b' ');
-    text::decimal(out, a, n)
-}
 
 fn run(out: &mut [u8], at: usize, s: &[u8], r: Run) -> usize
     requires { ⌜ r .start + r .length ≤ length (now s) ⌝ }
@@ -47,7 +38,7 @@ fn cause(out: &mut [u8], at: usize, code: u32) -> usize
     if code == 65535 {
         return text::word(out, at, b" -");
     }
-    number(out, at, code as u64)
+    text::number(out, at, code as u64)
 }
 
 // Line number, type and form.
@@ -71,35 +62,9 @@ fn message_line(out: &mut [u8], line: u64, s: &[u8], m: Message) -> usize
     let a = type_and_form(out, line, m.tag, m.fault);
     let b = run(out, a, s, origin);
     let c = run(out, b, s, destination);
-    let d = number(out, c, portion.start as u64);
-    let e = number(out, d, portion.length as u64);
+    let d = text::number(out, c, portion.start as u64);
+    let e = text::number(out, d, portion.length as u64);
     let f = cause(out, e, m.cause);
-    text::put(out, f, b'\n')
-}
-
-// Start, length, ID, linked ID and problem.
-fn row_numbers(out: &mut [u8], at: usize, r: Row) -> usize
-    ensures { λ r. ⌜ r ≤ length (now (out .exit)) ⌝ }
-{
-    let a = number(out, at, r.start as u64);
-    let b = number(out, a, r.length as u64);
-    let c = number(out, b, r.invoke as u64);
-    let d = number(out, c, r.linked as u64);
-    number(out, d, r.problem as u64)
-}
-
-// The tag, these numbers, and the parameter's start and length.
-fn component_line(out: &mut [u8], at: usize, c: Component) -> usize
-    requires { ⌜ (at < 65536) × (c .stop < 65536) × (c .par ≤ c .parstop) ⌝ }
-    ensures { λ r. ⌜ r ≤ length (now (out .exit)) ⌝ }
-{
-    let n = c.parstop - c.par;
-    let r = rows::component_row(c, 0, at, 0, c.problem);
-    let a = text::word(out, 0, b"c ");
-    let b = text::octet(out, a, c.tag);
-    let d = row_numbers(out, b, r);
-    let e = number(out, d, c.par as u64);
-    let f = number(out, e, n as u64);
     text::put(out, f, b'\n')
 }
 
@@ -110,25 +75,10 @@ fn fault_line(out: &mut [u8], at: usize, c: Component) -> usize
 {
     let r = rows::component_row(c, 0, at, 0, c.problem);
     let a = text::word(out, 0, b"fault");
-    let b = number(out, a, c.fault as u64);
-    let d = number(out, b, r.start as u64);
-    let e = number(out, d, r.length as u64);
+    let b = text::number(out, a, c.fault as u64);
+    let d = text::number(out, b, r.start as u64);
+    let e = text::number(out, d, r.length as u64);
     text::put(out, e, b'\n')
-}
-
-// The component at a cursor; the next cursor, 0 for none.
-fn component(s: &[u8], k: usize) -> usize
-    ensures { λ r. ⌜ (0 < r → (k < r) × (r ≤ 525312)) ⌝ }
-{
-    match reader::piece_at(s, k) {
-        Piece::Part(at, c, next) => {
-            let mut out = [0u8; 256];
-            let n = component_line(&mut out, at, c);
-            text::say(&out, n);
-            next
-        }
-        Piece::End => 0,
-    }
 }
 
 // What stands at the cursor where the reader ended: nothing after the last component, else a syntax fault. An empty 6C is one.
@@ -159,20 +109,12 @@ fn components(s: &[u8])
         return;
     }
     let mut last = first;
-    let mut k = component(s, first);
+    let mut k = listing::component(s, first);
     while k > 0 {
         last = k;
-        k = component(s, k);
+        k = listing::component(s, k);
     }
     fault(s, first, last);
-}
-
-// A line that is no octets.
-pub fn bad(line: u64) {
-    let mut out = [0u8; 256];
-    let a = text::decimal(&mut out, 0, line);
-    let n = text::word(&mut out, a, b" bad\n");
-    text::say(&out, n);
 }
 
 // One of 0 or over 512 octets.

@@ -124,7 +124,7 @@ module _ (s : List ℕ) (lim at : ℕ) where
   component-told (Reject id p) a = reject-told id p a
 
 -- COMPONENTS one after another, to lim
-octets-some : (w : Written) → 0 < length (octetsOf w)
+pub octets-some : (w : Written) → 0 < length (octetsOf w)
 unfolding octetsOf invokeOctets resultOctets errorOctets rejectOctets tlv
 octets-some (Invoke id linked op par) = omega arith
 octets-some (Result tag id op par) = omega arith

@@ -1,7 +1,7 @@
 // A received message over the lent table (01, "A received message"): what it makes of the table, its rows, and the Abort that it is answered by.
 ghost use mathlib.Core.Path.{_≡_};
 ghost use mathlib.Core.List.{[]};
-ghost use Prim.Native.Nat.{ℕ, _+_, _*_, _<_, _≤_};
+ghost use Prim.Native.Nat.{_+_, _*_, _<_, _≤_};
 ghost use lib.ListN.{length, getD, take, drop};
 ghost use Rattle.laws.specs.If.{ifEq};
 ghost use Rattle.laws.specs.Lists.{pad};
@@ -14,15 +14,13 @@ ghost use Rattle.paper.specs.Calls.{Table, placeAt, octetsAt, numberAt, assigne
 ghost use Rattle.paper.specs.Calls.{beginReceived, continuedControl, continueReceived, endReceived, abortReceived, toDialogue, soundReceived, received};
 ghost use Rattle.paper.specs.Layout.{encode, view};
 ghost use Rattle.facts.specs.Ready.{Ready};
-ghost use Rattle.messages.specs.Bounds.{RunIn, IdIn};
+ghost use Rattle.messages.specs.Bounds.{RunIn};
 ghost use Rattle.shows.specs.Shows.{Shows};
 ghost use Rattle.receiving.specs.Receives.{Read, Standing, Counts, Rowed, Leaves, Receives};
 use paper::Control;
 use paper::GUARANTEES;
-use paper::Invocation;
 use paper::LIMITS;
 use paper::Message;
-use paper::Reject;
 use paper::Row;
 use paper::Run;
 use shows::Shown;
@@ -206,36 +204,12 @@ fn shown(
     }
 }
 
-// ---- BY TYPE
-// A dialogue without invocations and rejects.
-fn begun(turn: u32, state: u8, service: u8, peerlen: u8, peer: [u8; 4]) -> Control
-    ensures { λ r. ⌜ r ≡ begun turn state service peerlen peer ⌝ }
-{
-    let invocations = [Invocation {
-        id: 0,
-        class: 0,
-        state: 0,
-        shown: 0,
-    }; 8];
-    let rejects = [Reject { id: 0, problem: 0 }; 8];
-    Control {
-        turn,
-        state,
-        service,
-        peerlen,
-        peer,
-        count: 0,
-        invocations,
-        rejects,
-    }
-}
-
 // A Unidirectional has no dialogue: what its components act on is dropped.
 fn uni_received(s: &[u8], m: Message, rows: &mut [u8]) -> u32
     requires { ⌜ Read (now s) m × (4096 ≤ length (now rows)) ⌝ }
     ensures { λ r. ⌜ ((T : Table) → Leaves (uniReceived T (now (s .entry)) m) r (encode T) (now (rows .entry)) (now (rows .exit))) ⌝ }
 {
-    let c = begun(0, 0, 0, 0, [0; 4]);
+    let c = places::begun(0, 0, 0, 0, [0; 4]);
     let r = shown(s, m, 1, 0, c, 0, rows);
     r.count as u32
 }
@@ -249,7 +223,7 @@ fn begin_at(t: &mut [u8], service: u32, p: usize, s: &[u8], m: Message, rows: &m
     let me = places::id_at(t, p);
     let id = m.origin;
     let peer = peer_of(s, id);
-    let c = begun(turn, 3, service as u8, id.length as u8, peer);
+    let c = places::begun(turn, 3, service as u8, id.length as u8, peer);
     let r = shown(s, m, 2, me, c, 8, rows);
     let control = r.control;
     places::begin_at(t, p, control);

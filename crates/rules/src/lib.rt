@@ -16,12 +16,12 @@ ghost use lib.Dec.{eqb};
 ghost use lib.ListN.{length, drop, getD};
 ghost use Rattle.laws.specs.Lists.{zeros};
 ghost use Rattle.paper.specs.Invocations.{isOpen};
-ghost use Rattle.paper.specs.Calls.{held, mayBegin};
+ghost use Rattle.paper.specs.Calls.{held};
 ghost use Rattle.paper.specs.Layout.{invocationBy, rejectBy, controlBy, view};
 ghost use Rattle.paper.specs.Rules.{freeKept, invocationKept, invocationsKept, rejectKept, rejectsKept, hasPeer, peerKept, waitingKept, usedKept};
 ghost use Rattle.rules.specs.Kinds.{invocationsFrom, noneOpen, invocationAtKept, IdleFrom, rejectsFrom, rejectAtKept, octetsKept, headKept, tailKept, kindOf};
 ghost use Rattle.rules.specs.Tally.{FreeRun};
-ghost use Rattle.rules.specs.Checking.{Scanned, shareKept, freeOf, SharesTold, Passed, CheckTold};
+ghost use Rattle.rules.specs.Checking.{Scanned, shareKept, freeOf, SharesTold, CheckTold};
 
 // Whether a place's octets are all 0 from k on.
 fn zeros_from(rec: &[u8], k: usize) -> bool
@@ -570,17 +570,4 @@ pub fn check(t: &[u8]) -> Checked
         return refused(2);
     }
     refused(2)
-}
-
-// Whether a service is given a place (demand 3), by what the check counted.
-pub fn may_begin(t: &[u8], service: usize, counts: [u8; 16], unused: u32, free: u32) -> bool
-    requires { ⌜ Passed (now t) counts unused free × (service < 16) ⌝ }
-    ensures { λ r. ⌜ r ≡ mayBegin (view (now (t .entry))) service ⌝ }
-{
-    let i = GUARANTEES + service;
-    let j = LIMITS + service;
-    let guarantee = number(t[i]);
-    let limit = number(t[j]);
-    let count = number(counts[service]);
-    shares::gives_place(count, guarantee, limit, unused, free)
 }

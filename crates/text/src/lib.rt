@@ -69,6 +69,14 @@ pub fn decimal(out: &mut [u8], at: usize, n: u64) -> usize
     word(out, at, &digits[..k])
 }
 
+// A blank and a number.
+pub fn number(out: &mut [u8], at: usize, n: u64) -> usize
+    ensures { λ r. ⌜ r ≤ length (now (out .exit)) ⌝ }
+{
+    let a = put(out, at, b' ');
+    decimal(out, a, n)
+}
+
 // An octet in hex capitals.
 pub fn octet(out: &mut [u8], at: usize, x: u8) -> usize
     ensures { λ r. ⌜ r ≤ length (now (out .exit)) ⌝ }
@@ -99,4 +107,13 @@ pub fn say(out: &[u8], n: usize)
     requires { ⌜ n ≤ length (now out) ⌝ }
 {
     io::write_all(STDOUT_FILENO, &out[..n]);
+}
+
+// A line that cannot be read: its number and `bad`.
+pub fn bad(line: u64, separator: u8) {
+    let mut out = [0u8; 32];
+    let a = decimal(&mut out, 0, line);
+    let b = put(&mut out, a, separator);
+    let n = word(&mut out, b, b"bad\n");
+    say(&out, n);
 }

@@ -52,9 +52,9 @@ pub fn cancel(table: &mut [u8], service: u32, dialogue: u32, id: u8) -> Reply
         return entry::refused(answer);
     }
     let p = m.place;
-    let n = idle_from(table, p, id, 2);
-    if n != 0 {
-        return entry::refused(n);
+    let why = idle_from(table, p, id, 2);
+    if why != 0 {
+        return entry::refused(why);
     }
     return entry::done(0, 0);
 }
@@ -139,7 +139,6 @@ pub fn end_prearranged(table: &mut [u8], service: u32, dialogue: u32) -> Reply
     if answer != 0 {
         return entry::refused(answer);
     }
-    let p = m.place;
-    places::free_at(table, p);
+    places::free_at(table, m.place);
     return entry::done(0, 0);
 }

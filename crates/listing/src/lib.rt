@@ -1,0 +1,112 @@
+// What a call or a reader gives, as text: a dialogue, a row, a component.
+ghost use Prim.Native.Nat.{_<_, _≤_};
+ghost use lib.ListN.{length};
+use paper::Component;
+use paper::Row;
+use reader::Piece;
+
+// A dialogue's ID, 8 hex digits.
+pub fn dialogue(out: &mut [u8], at: usize, id: u32) -> usize
+    ensures { λ r. ⌜ r ≤ length (now (out .exit)) ⌝ }
+{
+    let a = text::octet(out, at, (id / 16777216) as u8);
+    let b = text::octet(out, a, (id / 65536 % 256) as u8);
+    let c = text::octet(out, b, (id / 256 % 256) as u8);
+    text::octet(out, c, (id % 256) as u8)
+}
+
+// The message of so many octets at the start of a space, `-` for none.
+pub fn message(out: &mut [u8], at: usize, space: &[u8], count: u32) -> usize
+    requires { ⌜ at ≤ length (now out) ⌝ }
+    ensures { λ r. ⌜ r ≤ length (now (out .exit)) ⌝ }
+{
+    let n = count as usize;
+    if n > space.len() {
+        return text::octets(out, at, space);
+    }
+    text::octets(out, at, &space[0..n])
+}
+
+fn wide(x: u8) -> u32
+    ensures { λ r. ⌜ r ≤ 255 ⌝ }
+{
+    x as u32
+}
+
+// The number of four octets at a place of the row space, least significant first; 0 past its end.
+pub fn number_at(rows: &[u8], at: usize) -> u32 {
+    if at >= rows.len() {
+        return 0;
+    }
+    if rows.len() - at < 4 {
+        return 0;
+    }
+    wide(rows[at])
+        + 256 * wide(rows[at + 1])
+        + 65536 * wide(rows[at + 2])
+        + 16777216 * wide(rows[at + 3])
+}
+
+// The eight numbers of the row at a place of the row space, each after a blank.
+pub fn row(out: &mut [u8], at: usize, rows: &[u8], place: usize) -> usize
+    requires { ⌜ (at ≤ length (now out)) × (place < 137438953472) ⌝ }
+    ensures { λ r. ⌜ r ≤ length (now (out .exit)) ⌝ }
+{
+    let mut k = at;
+    let mut i = 0;
+    while i < 8 {
+        let n = number_at(rows, place + 4 * i);
+        k = text::number(out, k, n as u64);
+        i += 1;
+    }
+    k
+}
+
+// Start, length, ID, linked ID and problem.
+fn row_numbers(out: &mut [u8], at: usize, r: Row) -> usize
+    ensures { λ r. ⌜ r ≤ length (now (out .exit)) ⌝ }
+{
+    let a = text::number(out, at, r.start as u64);
+    let b = text::number(out, a, r.length as u64);
+    let c = text::number(out, b, r.invoke as u64);
+    let d = text::number(out, c, r.linked as u64);
+    text::number(out, d, r.problem as u64)
+}
+
+// The tag, these numbers, and the parameter's start and length.
+fn component_line(out: &mut [u8], at: usize, c: Component) -> usize
+    requires { ⌜ (at < 65536) × (c .stop < 65536) × (c .par ≤ c .parstop) ⌝ }
+    ensures { λ r. ⌜ r ≤ length (now (out .exit)) ⌝ }
+{
+    let n = c.parstop - c.par;
+    let r = rows::component_row(c, 0, at, 0, c.problem);
+    let a = text::word(out, 0, b"c ");
+    let b = text::octet(out, a, c.tag);
+    let d = row_numbers(out, b, r);
+    let e = text::number(out, d, c.par as u64);
+    let f = text::number(out, e, n as u64);
+    text::put(out, f, b'\n')
+}
+
+// The component at a cursor; the next cursor, 0 for none.
+pub fn component(s: &[u8], k: usize) -> usize
+    ensures { λ r. ⌜ (0 < r → (k < r) × (r ≤ 525312)) ⌝ }
+{
+    match reader::piece_at(s, k) {
+        Piece::Part(at, c, next) => {
+            let mut out = [0u8; 256];
+            let n = component_line(&mut out, at, c);
+            text::say(&out, n);
+            next
+        }
+        Piece::End => 0,
+    }
+}
+
+// The same without a line of text.
+pub fn next_cursor(s: &[u8], k: usize) -> usize {
+    match reader::piece_at(s, k) {
+        Piece::Part(_, _, next) => next,
+        Piece::End => 0,
+    }
+}

@@ -1,0 +1,297 @@
+// A line of the input: a call, by its number of fields and its verb.
+ghost use Prim.Native.Nat.{_<_};
+use crate::asked;
+use crate::show;
+use entry::Reply;
+use fields::Pair;
+
+// The answer that no call gives: a line that cannot be read.
+const UNREAD: u32 = 255;
+
+fn unread() -> Reply {
+    entry::refused(UNREAD)
+}
+
+fn fresh(table: &mut [u8], line: &[u8]) -> Reply {
+    let mut guarantees = [0u8; 16];
+    let mut limits = [0u8; 16];
+    if asked::shares(asked::part(line, 1), &mut guarantees) {
+        if asked::shares(asked::part(line, 2), &mut limits) {
+            return opening::fresh(table, &guarantees, &limits);
+        }
+    }
+    unread()
+}
+
+fn open_for(table: &mut [u8], line: &[u8]) -> Reply {
+    let s = asked::number(line, 1);
+    if s.ok {
+        if asked::verb(line, b"open") {
+            return opening::open(table, s.value);
+        }
+    }
+    unread()
+}
+
+fn receive(table: &mut [u8], rows: &mut [u8], space: &mut [u8], line: &mut [u8]) -> Reply {
+    let s = asked::number(line, 1);
+    let f = asked::field(line, 2);
+    let m = fields::octets_or_none(line, f);
+    if s.ok && m.ok {
+        return incoming::receive(table, s.value, fields::cut(line, m), rows, space);
+    }
+    unread()
+}
+
+// A request or an event that names a dialogue alone.
+fn on_dialogue(table: &mut [u8], rows: &mut [u8], space: &mut [u8], line: &[u8]) -> Reply {
+    let n = asked::on_dialogue(line);
+    let service = n.service;
+    let dialogue = n.dialogue;
+    if n.ok {
+        if asked::verb(line, b"begin") {
+            return sending::send_begin(table, service, dialogue, space);
+        }
+        if asked::verb(line, b"continue") {
+            return sending::send_continue(table, service, dialogue, space);
+        }
+        if asked::verb(line, b"end") {
+            return sending::send_end(table, service, dialogue, space);
+        }
+        if asked::verb(line, b"uni") {
+            return sending::send_unidirectional(table, service, dialogue, space);
+        }
+        if asked::verb(line, b"prearranged") {
+            return timing::end_prearranged(table, service, dialogue);
+        }
+        if asked::verb(line, b"noreaction") {
+            return timing::no_reaction(table, service, dialogue, rows);
+        }
+    }
+    unread()
+}
+
+fn abort(table: &mut [u8], space: &mut [u8], line: &mut [u8]) -> Reply {
+    let n = asked::on_dialogue(line);
+    let f = asked::field(line, 3);
+    let p = fields::octets_or_none(line, f);
+    if n.ok && p.ok {
+        return sending::send_abort(table, n.service, n.dialogue, fields::cut(line, p), space);
+    }
+    unread()
+}
+
+// One that names an invocation too.
+fn on_invocation(table: &mut [u8], rows: &mut [u8], line: &[u8]) -> Reply {
+    let n = asked::on_invocation(line);
+    if n.ok {
+        if asked::verb(line, b"cancel") {
+            return timing::cancel(table, n.service, n.dialogue, n.id);
+        }
+        if asked::verb(line, b"timeout") {
+            return timing::timeout(table, n.service, n.dialogue, n.id, rows);
+        }
+        if asked::verb(line, b"rejtimeout") {
+            return timing::reject_timeout(table, n.service, n.dialogue, n.id);
+        }
+    }
+    unread()
+}
+
+fn reject(table: &mut [u8], line: &[u8]) -> Reply {
+    let n = asked::on_invocation(line);
+    let p = asked::number(line, 4);
+    if n.ok && p.ok {
+        if asked::verb(line, b"reject") {
+            return passing::reject(table, n.service, n.dialogue, n.id, p.value);
+        }
+    }
+    unread()
+}
+
+fn error(table: &mut [u8], line: &[u8], given: Pair) -> Reply {
+    let n = asked::on_invocation(line);
+    if n.ok {
+        return passing::error(
+            table,
+            n.service,
+            n.dialogue,
+            n.id,
+            fields::cut(line, given.first),
+            fields::cut(line, given.second),
+        );
+    }
+    unread()
+}
+
+fn result(table: &mut [u8], line: &[u8], given: Pair) -> Reply {
+    let n = asked::on_invocation(line);
+    let tag = asked::result_tag(asked::part(line, 4));
+    if n.ok && tag > 0 {
+        return passing::result(
+            table,
+            n.service,
+            n.dialogue,
+            tag,
+            n.id,
+            fields::cut(line, given.first),
+            fields::cut(line, given.second),
+        );
+    }
+    unread()
+}
+
+fn invoke(table: &mut [u8], line: &[u8], given: Pair) -> Reply {
+    let n = asked::on_invocation(line);
+    let linked = asked::linked(asked::part(line, 4));
+    let class = asked::number(line, 5);
+    if n.ok && linked.ok && class.ok {
+        return passing::invoke(
+            table,
+            n.service,
+            n.dialogue,
+            n.id,
+            linked.value,
+            class.value,
+            fields::cut(line, given.first),
+            fields::cut(line, given.second),
+        );
+    }
+    unread()
+}
+
+// One that gives an operation or error and a parameter, in its last two fields, with k others before them.
+fn with_pair(table: &mut [u8], line: &mut [u8], k: usize) -> Reply
+    requires { ⌜ k < 8 ⌝ }
+{
+    let given = fields::octets_of_two(line, b' ', k);
+    if given.ok {
+        if k == 4 && asked::verb(line, b"error") {
+            return error(table, line, given);
+        }
+        if k == 5 && asked::verb(line, b"result") {
+            return result(table, line, given);
+        }
+        if k == 6 && asked::verb(line, b"invoke") {
+            return invoke(table, line, given);
+        }
+    }
+    unread()
+}
+
+// Two blanks: a fresh table, a message, or a dialogue alone.
+fn with_three(table: &mut [u8], rows: &mut [u8], space: &mut [u8], line: &mut [u8]) -> Reply {
+    if asked::verb(line, b"fresh") {
+        return fresh(table, line);
+    }
+    if asked::verb(line, b"recv") {
+        return receive(table, rows, space, line);
+    }
+    on_dialogue(table, rows, space, line)
+}
+
+fn with_four(table: &mut [u8], rows: &mut [u8], space: &mut [u8], line: &mut [u8]) -> Reply {
+    if asked::verb(line, b"abort") {
+        return abort(table, space, line);
+    }
+    on_invocation(table, rows, line)
+}
+
+fn reply_to(table: &mut [u8], rows: &mut [u8], space: &mut [u8], line: &mut [u8]) -> Reply {
+    let n = fields::separators(line, b' ');
+    if n == 1 {
+        return open_for(table, line);
+    }
+    if n == 2 {
+        return with_three(table, rows, space, line);
+    }
+    if n == 3 {
+        return with_four(table, rows, space, line);
+    }
+    if n == 4 {
+        return reject(table, line);
+    }
+    if n == 5 {
+        return with_pair(table, line, 4);
+    }
+    if n == 6 {
+        return with_pair(table, line, 5);
+    }
+    if n == 7 {
+        return with_pair(table, line, 6);
+    }
+    unread()
+}
+
+// `parameter OCTETS START LENGTH`
+fn parameter(line: &mut [u8], number: u64) {
+    let n = fields::separators(line, b' ');
+    let start = asked::number(line, 2);
+    let count = asked::number(line, 3);
+    let f = asked::field(line, 1);
+    let m = fields::octets_or_none(line, f);
+    if n == 3 && start.ok && count.ok && m.ok {
+        show::parameter_line(
+            fields::cut(line, m),
+            start.value as usize,
+            count.value as usize,
+        );
+        return;
+    }
+    text::bad(number, b' ');
+}
+
+// `components OCTETS`
+fn components(line: &mut [u8], number: u64) {
+    let f = asked::field(line, 1);
+    let n = fields::separators(line, b' ');
+    let m = fields::octets_or_none(line, f);
+    if n == 1 && m.ok {
+        show::component_lines(fields::cut(line, m));
+        return;
+    }
+    text::bad(number, b' ');
+}
+
+// A comment, or what a call gives.
+fn passed_over(line: &[u8]) -> bool {
+    if line.len() == 0 {
+        return false;
+    }
+    if line[0] == b'#' || line[0] == b'=' {
+        return true;
+    }
+    if fields::separators(line, b' ') == 0 {
+        return false;
+    }
+    if asked::verb(line, b"r") {
+        return true;
+    }
+    asked::verb(line, b"c")
+}
+
+fn called(table: &mut [u8], rows: &mut [u8], space: &mut [u8], line: &mut [u8], number: u64) {
+    let opens = asked::verb(line, b"open");
+    let r = reply_to(table, rows, space, line);
+    if r.answer == UNREAD {
+        text::bad(number, b' ');
+        return;
+    }
+    show::reply(r, opens, space);
+    show::row_lines(rows, r.rows);
+}
+
+pub fn play(table: &mut [u8], rows: &mut [u8], space: &mut [u8], line: &mut [u8], number: u64) {
+    if passed_over(line) {
+        return;
+    }
+    if asked::verb(line, b"parameter") {
+        parameter(line, number);
+        return;
+    }
+    if asked::verb(line, b"components") {
+        components(line, number);
+        return;
+    }
+    called(table, rows, space, line, number);
+}

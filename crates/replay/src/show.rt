@@ -1,0 +1,107 @@
+// What a call gives, as lines of text (vectors/README.md).
+ghost use Prim.Native.Nat.{_≤_};
+ghost use lib.ListN.{length};
+use entry::Reply;
+
+fn opened(out: &mut [u8], at: usize, r: Reply, opens: bool) -> usize
+    ensures { λ r. ⌜ r ≤ length (now (out .exit)) ⌝ }
+{
+    if opens {
+        if r.answer == 0 {
+            return listing::dialogue(out, at, r.dialogue);
+        }
+    }
+    text::put(out, at, b'-')
+}
+
+// `= ANSWER DIALOGUE`, the dialogue of an open that is done
+fn answer_line(out: &mut [u8], r: Reply, opens: bool) -> usize
+    ensures { λ r. ⌜ r ≤ length (now (out .exit)) ⌝ }
+{
+    let a = text::put(out, 0, b'=');
+    let b = text::number(out, a, r.answer as u64);
+    let c = text::put(out, b, b' ');
+    opened(out, c, r, opens)
+}
+
+// ` MESSAGE NROWS`
+fn message_line(out: &mut [u8], at: usize, r: Reply, space: &[u8]) -> usize
+    ensures { λ r. ⌜ r ≤ length (now (out .exit)) ⌝ }
+{
+    let a = text::put(out, at, b' ');
+    let b = listing::message(out, a, space, r.length);
+    let c = text::number(out, b, r.rows as u64);
+    text::put(out, c, b'\n')
+}
+
+pub fn reply(r: Reply, opens: bool, space: &[u8]) {
+    let mut out = [0u8; 1024];
+    let a = answer_line(&mut out, r, opens);
+    let n = message_line(&mut out, a, r, space);
+    text::say(&out, n);
+}
+
+// `r n n n n n n n n`
+fn row(rows: &[u8], k: u32) {
+    let mut out = [0u8; 256];
+    let a = text::put(&mut out, 0, b'r');
+    let b = listing::row(&mut out, a, rows, (k as usize) * 32);
+    let n = text::put(&mut out, b, b'\n');
+    text::say(&out, n);
+}
+
+pub fn row_lines(rows: &[u8], count: u32) {
+    let mut k = 0;
+    while k < count {
+        row(rows, k);
+        k += 1;
+    }
+}
+
+// `= START LENGTH OCTETS`
+pub fn parameter_line(s: &[u8], start: usize, count: usize) {
+    let p = parameter::parameter_at(s, start, count);
+    let mut out = [0u8; 16640];
+    let a = text::put(&mut out, 0, b'=');
+    let b = text::number(&mut out, a, p.start as u64);
+    let c = text::number(&mut out, b, p.length as u64);
+    let d = text::put(&mut out, c, b' ');
+    let e = text::octets(&mut out, d, parameter::parameter(s, start, count));
+    let n = text::put(&mut out, e, b'\n');
+    text::say(&out, n);
+}
+
+// How many components the reader gives: fewer than the octets of a message.
+fn count(s: &[u8]) -> u64 {
+    let mut n = 0;
+    let mut k = 0;
+    while n < 512 {
+        k = listing::next_cursor(s, k);
+        if k == 0 {
+            return n;
+        }
+        n += 1;
+    }
+    n
+}
+
+// `= COUNT`
+fn count_line(n: u64) {
+    let mut out = [0u8; 32];
+    let a = text::put(&mut out, 0, b'=');
+    let b = text::number(&mut out, a, n);
+    let c = text::put(&mut out, b, b'\n');
+    text::say(&out, c);
+}
+
+// That, and a line for each.
+pub fn component_lines(s: &[u8]) {
+    let n = count(s);
+    count_line(n);
+    let mut k = 0;
+    let mut i = 0;
+    while i < n {
+        k = listing::component(s, k);
+        i += 1;
+    }
+}

@@ -1,0 +1,143 @@
+// A line as a call, by its number of fields and its verb.
+use entry::Reply;
+use fields::Number;
+use fields::Pair;
+
+// What it gave: the dialogue only where there is one to tell of. `read` tells whether it was a line that can be read.
+pub struct Played {
+    pub read: bool,
+    pub answer: u32,
+    pub told: bool,
+    pub dialogue: u32,
+    pub rows: u32,
+    pub length: u32,
+}
+
+fn unread() -> Played {
+    Played {
+        read: false,
+        answer: 0,
+        told: false,
+        dialogue: 0,
+        rows: 0,
+        length: 0,
+    }
+}
+
+// A reply, with the dialogue that it is about: "- none, refused or UNI".
+fn about(r: Reply, told: bool, dialogue: u32) -> Played {
+    Played {
+        read: true,
+        answer: r.answer,
+        told: told && r.answer == 0,
+        dialogue,
+        rows: r.rows,
+        length: r.length,
+    }
+}
+
+fn part<'a>(line: &'a [u8], k: usize) -> &'a [u8] {
+    fields::part(line, b'\t', k)
+}
+
+fn verb(line: &[u8], w: &[u8]) -> bool {
+    fields::is(part(line, 1), w)
+}
+
+fn service(line: &[u8]) -> Number {
+    fields::decimal(part(line, 0))
+}
+
+fn open_for(table: &mut [u8], line: &[u8]) -> Played {
+    let s = service(line);
+    if s.ok {
+        if verb(line, b"open") {
+            let r = opening::open(table, s.value);
+            return about(r, true, r.dialogue);
+        }
+    }
+    unread()
+}
+
+fn begin(table: &mut [u8], space: &mut [u8], line: &[u8]) -> Played {
+    let s = service(line);
+    let d = fields::dialogue(part(line, 2));
+    if s.ok && d.ok {
+        let r = sending::send_begin(table, s.value, d.value, space);
+        return about(r, true, d.value);
+    }
+    unread()
+}
+
+// The dialogue is that of the first row, none in UNI (kind 1).
+fn receive(table: &mut [u8], rows: &mut [u8], space: &mut [u8], line: &mut [u8]) -> Played {
+    let s = service(line);
+    let f = fields::nth(line, b'\t', 2);
+    let m = fields::octets(line, f);
+    if s.ok && m.ok {
+        let r = incoming::receive(table, s.value, fields::cut(line, m), rows, space);
+        let kind = listing::number_at(rows, 0);
+        let dialogue = listing::number_at(rows, 4);
+        return about(r, r.rows > 0 && kind != 1, dialogue);
+    }
+    unread()
+}
+
+// The operation and the parameter are octets in the line.
+fn invoke_with(table: &mut [u8], line: &[u8], given: Pair) -> Played {
+    let s = service(line);
+    let d = fields::dialogue(part(line, 2));
+    let class = fields::decimal(part(line, 4));
+    let i = fields::id(part(line, 3));
+    if s.ok && d.ok && i.ok && class.ok {
+        let r = passing::invoke(
+            table,
+            s.value,
+            d.value,
+            i.value as u8,
+            256,
+            class.value,
+            fields::cut(line, given.first),
+            fields::cut(line, given.second),
+        );
+        return about(r, true, d.value);
+    }
+    unread()
+}
+
+fn invoke(table: &mut [u8], line: &mut [u8]) -> Played {
+    let given = fields::octets_of_two(line, b'\t', 5);
+    if given.ok {
+        return invoke_with(table, line, given);
+    }
+    unread()
+}
+
+// Only the parameter may be `-`.
+fn invokes(line: &[u8]) -> bool {
+    if fields::is(part(line, 5), b"-") {
+        return false;
+    }
+    verb(line, b"invoke")
+}
+
+pub fn play(table: &mut [u8], rows: &mut [u8], space: &mut [u8], line: &mut [u8]) -> Played {
+    let n = fields::separators(line, b'\t');
+    if n == 1 {
+        return open_for(table, line);
+    }
+    if n == 6 {
+        if invokes(line) {
+            return invoke(table, line);
+        }
+    }
+    if n == 2 {
+        if verb(line, b"begin") {
+            return begin(table, space, line);
+        }
+        if verb(line, b"recv") {
+            return receive(table, rows, space, line);
+        }
+    }
+    unread()
+}
