@@ -115,25 +115,25 @@ module _ (c : Control) (id i : ℕ) (l : List Invocation) (e : l ≡ c .invocati
       abbrev marked : Invocation → Invocation
       marked v = record { id = v .id; class = v .class; state = v .state; shown = 1 }
 
-      pub sent-shown : k ≡ answerKind tag → k < 13 → n ≡ 1
-          → does c id (record { kind = k; problem = noProblem; slot = i; put = marked (getD l i noInvocation) }) ≡ answersSent room c tag id
+      pub sent-shown : (x : Invocation) → x ≡ marked (getD l i noInvocation) → k ≡ answerKind tag → k < 13 → n ≡ 1
+          → does c id (record { kind = k; problem = noProblem; slot = i; put = x }) ≡ answersSent room c tag id
       unfolding answersSent notLastShown
-      sent-shown a low z =
-          told-shown c (notLastShown c id) id (record { kind = k; problem = noProblem; slot = i; put = marked (getD l i noInvocation) })
+      sent-shown x q a low z =
+          told-shown c (notLastShown c id) id (record { kind = k; problem = noProblem; slot = i; put = x })
           (ap (λ (j : ℕ). withInvocation c j (marked (invocationOf (c .invocations) id))) (sym slot)
           ∙ ap (λ (v : Invocation). withInvocation c i (marked v)) (sym found)
-          ∙ put-some c i (marked (getD l i noInvocation)) h) (λ x. omega arith)
+          ∙ put-some c i (marked (getD l i noInvocation)) h ∙ ap (putAt c i) (sym q)) (λ x. omega arith)
           ∙ ap (λ (k : ℕ). acted (notLastShown c id) k noProblem) a
           ∙ ne _ _ _ _ (λ x. omega (arith, class)) (eq _ _ _ _ (class ∙ z) refl)
 
-      pub sent-waits : k ≡ answerKind tag → k < 13 → (n ≡ 0 → ⊥) → (n ≡ 1 → ⊥)
-          → does c id (record { kind = k; problem = noProblem; slot = i; put = inState (getD l i noInvocation) wait }) ≡ answersSent room c tag id
+      pub sent-waits : (x : Invocation) → x ≡ inState (getD l i noInvocation) wait → k ≡ answerKind tag → k < 13 → (n ≡ 0 → ⊥) → (n ≡ 1 → ⊥)
+          → does c id (record { kind = k; problem = noProblem; slot = i; put = x }) ≡ answersSent room c tag id
       unfolding answersSent toState
-      sent-waits a low some other =
-          told-shown c (toState c id wait) id (record { kind = k; problem = noProblem; slot = i; put = inState (getD l i noInvocation) wait })
+      sent-waits x q a low some other =
+          told-shown c (toState c id wait) id (record { kind = k; problem = noProblem; slot = i; put = x })
           (ap (λ (j : ℕ). withInvocation c j (inState (invocationOf (c .invocations) id) wait)) (sym slot)
           ∙ ap (λ (v : Invocation). withInvocation c i (inState v wait)) (sym found)
-          ∙ put-some c i (inState (getD l i noInvocation) wait) h) (λ x. omega arith)
+          ∙ put-some c i (inState (getD l i noInvocation) wait) h ∙ ap (putAt c i) (sym q)) (λ x. omega arith)
           ∙ ap (λ (k : ℕ). acted (toState c id wait) k noProblem) a
           ∙ ne _ _ _ _ (λ x. some (sym class ∙ x)) (ne _ _ _ _ (λ x. other (sym class ∙ x)) refl)
 

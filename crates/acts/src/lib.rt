@@ -99,6 +99,17 @@ fn answer_problem(tag: u8, code: u32) -> u32
     512 + code
 }
 
+fn moved(v: Invocation, state: u8, shown: u8) -> Invocation
+    ensures { λ r. ⌜ r ≡ record { id = v .id; class = v .class; state = state; shown = shown } ⌝ }
+{
+    Invocation {
+        id: v.id,
+        class: v.class,
+        state,
+        shown,
+    }
+}
+
 // An answer to the Sent invocation in slot i; kind is that of a reject of ours, here and below.
 fn answer_sent(l: [Invocation; 8], i: usize, tag: u8, kind: u32) -> Told
     requires { ⌜ i < 8 ⌝ }
@@ -119,12 +130,7 @@ fn answer_sent(l: [Invocation; 8], i: usize, tag: u8, kind: u32) -> Told
     }
     let shown = answer_kind(tag);
     if n == 1 {
-        let put = Invocation {
-            id: v.id,
-            class: v.class,
-            state: v.state,
-            shown: 1,
-        };
+        let put = moved(v, v.state, 1);
         return Told {
             kind: shown,
             problem: 65535,
@@ -132,12 +138,7 @@ fn answer_sent(l: [Invocation; 8], i: usize, tag: u8, kind: u32) -> Told
             put,
         };
     }
-    let put = Invocation {
-        id: v.id,
-        class: v.class,
-        state: 3,
-        shown: v.shown,
-    };
+    let put = moved(v, 3, v.shown);
     Told {
         kind: shown,
         problem: 65535,

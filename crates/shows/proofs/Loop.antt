@@ -1,13 +1,12 @@
 -- The loop over the components: the answer of the whole is the answer of the rest. Assumes nothing.
 use mathlib.Core.Path.{_≡_, refl, sym, ap, subst, _∙_}
-use mathlib.Core.Bool.{Bool, true, false}
-use mathlib.Core.List.{List, [], _∷_, _++_}
-use Prim.Native.Nat.{ℕ, zero, suc, _+_, _*_, _-_, _<_, _≤_}
+use mathlib.Core.Bool.{Bool}
+use mathlib.Core.List.{List, [], _∷_}
+use Prim.Native.Nat.{ℕ, suc, _+_, _*_, _-_, _<_, _≤_}
 use native.Mathlib.Omega.{arith}
 use borrow.Author.Tests.{lt-ltb, le-ltb}
 use lib.ListN.{length}
 use lib.Seq.{sets}
-use lib.Dec.{ltb}
 use Rattle.laws.specs.If.{by-eq}
 use Rattle.laws.specs.Runs.{join}
 use Rattle.components.specs.Bounds.{ComponentIn}
@@ -21,7 +20,6 @@ use Rattle.paper.specs.Rows.{componentRow, rowBy, rowOctets, allActed, componen
 use Rattle.acts.specs.declared.Told.{Told}
 use Rattle.acts.specs.Told.{changed, does}
 use Rattle.shows.specs.declared.Stepped.{Stepped}
-use Rattle.shows.specs.declared.Shown.{Shown}
 use Rattle.shows.specs.Shows.{Steps, Next, Shows}
 
 -- where the component after the one at a position starts

@@ -1,10 +1,8 @@
 use native.Mathlib.Omega.{arith}
-use mathlib.Core.Bool.{true, false}
-use mathlib.Core.Path.{_≡_, refl, sym, ap, _∙_}
-use Prim.Native.Nat.{ℕ}
+use mathlib.Core.Path.{refl, sym, ap, _∙_}
 use mathlib.Core.List.{List}
 use Rattle.paper.specs.declared.Invocation.{Invocation}
-use Rattle.laws.specs.If.{lt, ge, eq, ne, yes, no, true-false}
+use Rattle.laws.specs.If.{eq, ne}
 use Rattle.acts.specs.Told.{stays-shown, stays-stored}
 use Rattle.paper.specs.Invocations.{invokes, invocationOf}
 use borrow.Author.Needs.{needs}

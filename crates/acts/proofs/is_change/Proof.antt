@@ -1,8 +1,4 @@
-use native.Mathlib.Omega.{arith}
-use mathlib.Core.Bool.{true, false}
-use mathlib.Core.Path.{_≡_, refl, sym, ap, _∙_}
-use Prim.Native.Nat.{ℕ}
-use Rattle.laws.specs.If.{lt, ge, eq, ne, yes, no, true-false}
+use Rattle.laws.specs.If.{true-false}
 use Rattle.acts.specs.Told.{told-nothing}
 use borrow.Author.Tests.{ltb-false}
 use Rattle.acts.proofs.is_change.Statement.{statement}

@@ -1,9 +1,7 @@
 use native.Mathlib.Omega.{arith}
-use mathlib.Core.Bool.{true, false}
-use mathlib.Core.Path.{_≡_, refl, sym, ap, _∙_}
-use Prim.Native.Nat.{ℕ}
+use mathlib.Core.Path.{refl, ap}
 use Rattle.paper.specs.declared.Control.{Control}
-use Rattle.laws.specs.If.{lt, ge, eq, ne, yes, no, true-false}
+use Rattle.laws.specs.If.{lt, ge}
 use Rattle.acts.specs.Told.{putAt}
 use borrow.Author.Needs.{needs}
 use Rattle.acts.proofs.put_at.Statement.{statement}

@@ -1,8 +1,7 @@
 use native.Mathlib.Omega.{arith}
-use mathlib.Core.Bool.{true, false}
-use mathlib.Core.Path.{_≡_, refl, sym, ap, _∙_}
+use mathlib.Core.Path.{refl, ap, _∙_}
 use Prim.Native.Nat.{ℕ}
-use Rattle.laws.specs.If.{lt, ge, eq, ne, yes, no, true-false}
+use Rattle.laws.specs.If.{lt, ge}
 use Rattle.acts.specs.Told.{told-as, stays-shown}
 use Rattle.paper.specs.Invocations.{rejects, acted}
 use borrow.Author.Needs.{needs}

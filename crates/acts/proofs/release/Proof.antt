@@ -1,9 +1,6 @@
 use native.Mathlib.Omega.{arith}
-use mathlib.Core.Bool.{true, false}
-use mathlib.Core.Path.{_≡_, refl, sym, ap, _∙_}
-use Prim.Native.Nat.{ℕ}
+use mathlib.Core.Path.{refl, ap}
 use Rattle.acts.specs.declared.Told.{Told}
-use Rattle.laws.specs.If.{lt, ge, eq, ne, yes, no, true-false}
 use Rattle.acts.specs.Told.{release-put, release-none}
 use borrow.Author.Needs.{needs}
 use Rattle.acts.proofs.release.Statement.{statement}

@@ -1,9 +1,5 @@
-use native.Mathlib.Omega.{arith}
-use mathlib.Core.Bool.{true, false}
-use mathlib.Core.Path.{_≡_, refl, sym, ap, _∙_}
-use Prim.Native.Nat.{ℕ}
+use mathlib.Core.Path.{refl, ap}
 use Rattle.paper.specs.declared.Invocation.{Invocation}
-use Rattle.laws.specs.If.{lt, ge, eq, ne, yes, no, true-false}
 use borrow.Author.Needs.{needs}
 use Rattle.acts.proofs.stays.Statement.{statement}
 use Rattle.acts.proofs.stays.Tie as tie
