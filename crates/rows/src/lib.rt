@@ -101,47 +101,39 @@ pub fn cancel_row(me: u32, id: u8) -> Row
 pub fn octets(r: Row) -> [u8; 32]
     ensures { λ b. ⌜ b ≡ rowOctets r ⌝ }
 {
-    let a = r.kind;
-    let b = r.dialogue;
-    let c = r.invoke;
-    let d = r.linked;
-    let e = r.problem;
-    let f = r.start;
-    let g = r.length;
-    let h = r.follow;
     [
-        (a % 256) as u8,
-        (a / 256 % 256) as u8,
-        (a / 65536 % 256) as u8,
-        (a / 16777216 % 256) as u8,
-        (b % 256) as u8,
-        (b / 256 % 256) as u8,
-        (b / 65536 % 256) as u8,
-        (b / 16777216 % 256) as u8,
-        (c % 256) as u8,
-        (c / 256 % 256) as u8,
-        (c / 65536 % 256) as u8,
-        (c / 16777216 % 256) as u8,
-        (d % 256) as u8,
-        (d / 256 % 256) as u8,
-        (d / 65536 % 256) as u8,
-        (d / 16777216 % 256) as u8,
-        (e % 256) as u8,
-        (e / 256 % 256) as u8,
-        (e / 65536 % 256) as u8,
-        (e / 16777216 % 256) as u8,
-        (f % 256) as u8,
-        (f / 256 % 256) as u8,
-        (f / 65536 % 256) as u8,
-        (f / 16777216 % 256) as u8,
-        (g % 256) as u8,
-        (g / 256 % 256) as u8,
-        (g / 65536 % 256) as u8,
-        (g / 16777216 % 256) as u8,
-        (h % 256) as u8,
-        (h / 256 % 256) as u8,
-        (h / 65536 % 256) as u8,
-        (h / 16777216 % 256) as u8,
+        (r.kind % 256) as u8,
+        (r.kind / 256 % 256) as u8,
+        (r.kind / 65536 % 256) as u8,
+        (r.kind / 16777216 % 256) as u8,
+        (r.dialogue % 256) as u8,
+        (r.dialogue / 256 % 256) as u8,
+        (r.dialogue / 65536 % 256) as u8,
+        (r.dialogue / 16777216 % 256) as u8,
+        (r.invoke % 256) as u8,
+        (r.invoke / 256 % 256) as u8,
+        (r.invoke / 65536 % 256) as u8,
+        (r.invoke / 16777216 % 256) as u8,
+        (r.linked % 256) as u8,
+        (r.linked / 256 % 256) as u8,
+        (r.linked / 65536 % 256) as u8,
+        (r.linked / 16777216 % 256) as u8,
+        (r.problem % 256) as u8,
+        (r.problem / 256 % 256) as u8,
+        (r.problem / 65536 % 256) as u8,
+        (r.problem / 16777216 % 256) as u8,
+        (r.start % 256) as u8,
+        (r.start / 256 % 256) as u8,
+        (r.start / 65536 % 256) as u8,
+        (r.start / 16777216 % 256) as u8,
+        (r.length % 256) as u8,
+        (r.length / 256 % 256) as u8,
+        (r.length / 65536 % 256) as u8,
+        (r.length / 16777216 % 256) as u8,
+        (r.follow % 256) as u8,
+        (r.follow / 256 % 256) as u8,
+        (r.follow / 65536 % 256) as u8,
+        (r.follow / 16777216 % 256) as u8,
     ]
 }
 
