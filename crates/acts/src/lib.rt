@@ -1,7 +1,7 @@
 // What a received component does to a dialogue's control record (01, "Invocation states").
 ghost use mathlib.Core.Bool.{false};
 ghost use mathlib.Core.Path.{_≡_};
-ghost use Prim.Native.Nat.{ℕ, _<_, _≤_};
+ghost use Prim.Native.Nat.{ℕ, _<_};
 ghost use Rattle.paper.specs.declared.Control.{Control};
 ghost use Rattle.paper.specs.Invocations.{slotOf, takes, answerKind, answerProblem, answersSent, answers, invokes, released, rejectKind, rejects, isAnswer, faults, act, withReject};
 ghost use Rattle.acts.specs.Told.{storedKind, putAt, changed, does, stay};

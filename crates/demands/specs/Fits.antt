@@ -1,26 +1,25 @@
 -- THE ROWS OF EVERY STEP FIT into 128, for a message of octets. Assumes nothing.
-use mathlib.Core.Path.{_≡_, refl, sym, ap, subst, _∙_}
-use mathlib.Core.Bool.{Bool, true, false}
+use mathlib.Core.Path.{refl, sym, subst}
 use mathlib.Core.List.{List, [], _∷_}
-use Prim.Native.Nat.{ℕ, zero, suc, _+_, _≤_, _<_}
+use Prim.Native.Nat.{ℕ, zero, suc, _≤_, _<_}
 use native.Mathlib.Omega.{arith}
 use lib.ListN.{length, getD}
-use Rattle.laws.specs.If.{ifLt, ifEq, ifB, by-eq, by-lt, by-b}
+use Rattle.laws.specs.If.{ifLt, by-lt}
 use Rattle.paper.specs.declared.Message.{Message}
 use Rattle.paper.specs.declared.Control.{Control}
 use Rattle.paper.specs.declared.Run.{Run}
 use Rattle.paper.specs.declared.Row.{Row}
-use Rattle.paper.specs.Sizes.{services, placeOf, mostRejects, localID}
+use Rattle.paper.specs.Sizes.{services, placeOf, mostRejects}
 use Rattle.paper.specs.Problems.{noProblem}
 use Rattle.paper.specs.Components.{Item, components}
 use Rattle.paper.specs.Messages.{messageOf, noRun, isSound, isDropped, uniTag, beginTag, endTag, continueTag}
 use Rattle.paper.specs.Invocations.{act, invocationOf}
 use Rattle.paper.specs.Rows.{dialogueRow, cancelRow, componentRow, componentRows, rowUni, rowBegin, rowContinue, rowEnd, rowUserAbort, rowAbort}
-use Rattle.paper.specs.Dialogues.{Place, Request, Done, refusal, does, request, unlessRefused, refused, timeoutRows, emptyControl}
+use Rattle.paper.specs.Dialogues.{Place, Request, refusal, does, request, unlessRefused, timeoutRows, emptyControl}
 use Rattle.paper.specs.Dialogues.Request.{Invoke, Result, Error, UserReject, Cancel, Begin, Continue, End, Prearranged, Abort, Unidirectional, Timeout, RejectTimeout, NoReaction}
-use Rattle.paper.specs.Calls.{Table, Call, Out, refuse, stored, requested, opened, itemsOf, shownRows, faultedAt, faulted, uniReceived, beginAt, beginReceived, continueReceived, endReceived, abortReceived, toDialogue, soundReceived, received, receivedIf, step, placeAt}
+use Rattle.paper.specs.Calls.{Table, Call, Out, refuse, stored, requested, opened, itemsOf, faultedAt, faulted, uniReceived, beginAt, beginReceived, continueReceived, endReceived, abortReceived, toDialogue, soundReceived, received, receivedIf, step, placeAt}
 use Rattle.paper.specs.Calls.Call.{Open, OnDialogue, Receive}
-use Rattle.messages.specs.Bounds.{MessageIn, message-in}
+use Rattle.messages.specs.Bounds.{message-in}
 use Rattle.facts.specs.Fine.{Octets}
 use Rattle.kept.specs.Leaves.{whether-eq, whether-lt, whether-b}
 use Rattle.kept.specs.Counted.{act-kind}

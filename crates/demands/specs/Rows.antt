@@ -1,5 +1,5 @@
 -- ROWS AS THE HOST READS THEM: they fit into the row space, and their kinds are had back from its octets. Assumes nothing.
-use mathlib.Core.Path.{_≡_, refl, sym, ap, subst, _∙_}
+use mathlib.Core.Path.{_≡_, refl, sym, ap, _∙_}
 use mathlib.Core.Bool.{Bool, true, false}
 use mathlib.Core.List.{List, [], _∷_, _++_}
 use Prim.Native.Nat.{ℕ, zero, suc, _+_, _*_, _-_, _/_, _%_, _≤_, _<_}
@@ -8,13 +8,12 @@ use lib.ListN.{length, getD, length-append}
 use lib.Seq.{sets, length-sets}
 use lib.Dec.{ltb}
 use borrow.Author.Tests.{ltb-true}
-use Rattle.laws.specs.If.{ifEq, by-eq}
+use Rattle.laws.specs.If.{by-eq}
 use Rattle.laws.specs.Sums.{sumBy}
 use Rattle.laws.specs.Runs.{join, before, inside}
-use Rattle.paper.specs.declared.Component.{Component}
 use Rattle.paper.specs.declared.Control.{Control}
 use Rattle.paper.specs.declared.Row.{Row}
-use Rattle.paper.specs.Components.{Item, item, items, components, componentAt, nextStart, goOn}
+use Rattle.paper.specs.Components.{Item, items, components, componentAt, nextStart, goOn}
 use Rattle.paper.specs.Invocations.{act}
 use Rattle.paper.specs.Rows.{rowOctets, rowsOctets, componentRows}
 use Rattle.components.specs.Bounds.{component-in}

@@ -1,7 +1,7 @@
 -- A signed octet raised by 256 where it is negative. Assumes nothing.
 use mathlib.Core.Path.{_≡_, refl, sym, ap, subst, _∙_}
-use mathlib.Core.Bool.{true, false, cond}
-use Prim.Native.Nat.{ℕ, suc, _-_, _<_}
+use mathlib.Core.Bool.{true, false}
+use Prim.Native.Nat.{suc, _-_, _<_}
 use native.Mathlib.Omega.{arith}
 use borrow.Author.Tests.{le-ltb}
 use lib.IntN.{ℤ, _+ℤ_, natAbs}

@@ -1,14 +1,13 @@
 -- THE END OF A CALL: from what a request is refused by, or does, to the call's outcome. Assumes nothing.
-use mathlib.Core.Path.{_≡_, refl, sym, ap, subst, _∙_}
-use mathlib.Core.Bool.{Bool, true, false}
+use mathlib.Core.Path.{_≡_, refl, sym, ap, _∙_}
+use mathlib.Core.Bool.{false}
 use mathlib.Core.List.{List, [], _∷_, append-nil}
 use Prim.Native.Nat.{ℕ, zero, suc, _<_, _≤_}
 use native.Mathlib.Omega.{arith}
 use lib.ListN.{length}
 use lib.Seq.{sets}
-use Rattle.laws.specs.If.{ifLt, ifEq, ifB, lt, ge, eq, yes, no, by-lt, by-eq, by-b, was-ge}
+use Rattle.laws.specs.If.{ifLt, ifB, lt, ge, eq, yes, no, by-lt, by-eq, by-b, was-ge}
 use Rattle.paper.specs.declared.Row.{Row}
-use Rattle.paper.specs.Sizes.{placeOf}
 use Rattle.paper.specs.Rows.{rowOctets, rowsOctets}
 use Rattle.paper.specs.Dialogues.{Place, Request, Done, done, refusal, does, request, refused, unlessRefused}
 use Rattle.paper.specs.Calls.{Call, Out, Table, placeAt, withPlace, owns, refuse, stored, requested, opened, step}

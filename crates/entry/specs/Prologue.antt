@@ -4,13 +4,11 @@ use mathlib.Core.Bool.{Bool, true, false}
 use mathlib.Core.List.{List}
 use Prim.Native.Nat.{ℕ, _+_, _<_, _≤_}
 use native.Mathlib.Omega.{arith}
-use lib.ListN.{length, getD}
+use lib.ListN.{getD}
 use Rattle.laws.specs.If.{ifLt, ifEq, ifB, lt, ge, eq, ne, yes, no}
-use Rattle.laws.specs.Sums.{sum}
 use Rattle.paper.specs.Sizes.{placesInAll, services, placeOf}
 use Rattle.paper.specs.Shares.{gives}
-use Rattle.paper.specs.Dialogues.{Place}
-use Rattle.paper.specs.Calls.{Table, placeAt, guaranteeOf, limitOf, held, mayBegin, lowestFree, owns}
+use Rattle.paper.specs.Calls.{placeAt, guaranteeOf, limitOf, held, mayBegin, lowestFree, owns}
 use Rattle.paper.specs.Layout.{flag, view}
 use Rattle.paper.specs.declared.Control.{Control}
 use Rattle.facts.specs.Fine.{FinePlace, Storable}

@@ -6,7 +6,7 @@ use native.Mathlib.Omega.{arith}
 use Rattle.laws.specs.If.{eq, ne}
 use Rattle.paper.specs.Calls.{Call, Out, step}
 use Rattle.paper.specs.Layout.{view}
-use Rattle.paper.specs.Outcome.{Lent, Spaces, Outcome, Gives, outcome, standing, spacesFor, shown, given, refusedBy}
+use Rattle.paper.specs.Outcome.{Lent, Outcome, Gives, outcome, standing, spacesFor, shown, given, refusedBy}
 use Rattle.entry.specs.declared.Reply.{Reply}
 
 abbrev pub reply : ℕ → ℕ → ℕ → ℕ → Reply

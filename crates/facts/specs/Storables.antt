@@ -1,8 +1,8 @@
 -- THE CHANGES OF A CONTROL RECORD leave one that can be stored. Assumes nothing.
-use mathlib.Core.Path.{_≡_, refl, sym, ap, subst, _∙_}
+use mathlib.Core.Path.{_≡_, refl, sym, subst, _∙_}
 use mathlib.Core.Bool.{Bool, true, false}
 use mathlib.Core.List.{List, [], _∷_, map}
-use Prim.Native.Nat.{ℕ, zero, suc, _<_, _≤_}
+use Prim.Native.Nat.{ℕ, zero, suc, _<_}
 use native.Mathlib.Omega.{arith}
 use lib.Dec.{ltb, eqb}
 use borrow.Author.Tests.{ltb-true, ltb-false, eqb-true, eqb-false}
@@ -12,7 +12,7 @@ use Rattle.paper.specs.declared.Invocation.{Invocation}
 use Rattle.paper.specs.declared.Reject.{Reject}
 use Rattle.paper.specs.declared.Control.{Control}
 use Rattle.paper.specs.Problems.{kindOf, codeOf}
-use Rattle.paper.specs.Invocations.{noInvocation, slotOf, idleSlot, invocationOf, withInvocation, inState, toState, toIdle, passed, notLastShown, transmitted, allTransmitted, withReject, pending, rejecting, sent}
+use Rattle.paper.specs.Invocations.{noInvocation, slotOf, idleSlot, invocationOf, withInvocation, inState, toState, toIdle, passed, notLastShown, transmitted, allTransmitted, withReject, pending, rejecting}
 use Rattle.paper.specs.Dialogues.{noReject, begun, withState, withoutRejects}
 use Rattle.paper.specs.Calls.{withPeer}
 use Rattle.facts.specs.Fine.{Storable}

@@ -3,7 +3,7 @@
 ghost use mathlib.Core.Path.{_≡_};
 ghost use mathlib.Core.List.{_++_};
 ghost use Prim.Native.Nat.{_+_, _*_, _-_, _≤_, _<_};
-ghost use lib.ListN.{length, take, getD};
+ghost use lib.ListN.{length, take};
 ghost use Rattle.laws.specs.Digits.{digits, lowest, count, octetDigits, wordAt};
 ghost use Rattle.paper.specs.Layout.{mapBit};
 ghost use Rattle.freemap.specs.Map.{withBit, withoutBit};

@@ -1,7 +1,7 @@
 // Octets given by a user (01, answers 11 and 12): one well-formed element of its kind, and not over 240 octets. Slices of any length.
 use paper::Reading;
 ghost use mathlib.Core.Path.{_≡_};
-ghost use Prim.Native.Nat.{ℕ, _+_, _≤_};
+ghost use Prim.Native.Nat.{_+_, _≤_};
 ghost use lib.ListN.{length};
 ghost use Rattle.paper.specs.Dialogues.{isElement, isCode, isParameter, isResult, isPortion};
 ghost use Rattle.given.specs.Pieces.{piecesRefusal, bothRefusal};

@@ -1,7 +1,7 @@
 -- HOW A RECEIVED MESSAGE ENDS: refused by 2, 3 or 4, or done. Assumes nothing.
 use mathlib.Core.Path.{_≡_, refl, sym, ap, _∙_}
-use mathlib.Core.List.{List, [], _∷_}
-use Prim.Native.Nat.{ℕ, zero, suc, _≤_, _<_}
+use mathlib.Core.List.{List}
+use Prim.Native.Nat.{ℕ, _≤_, _<_}
 use native.Mathlib.Omega.{arith}
 use lib.ListN.{length}
 use Rattle.laws.specs.If.{lt, ge, eq, ne}
@@ -13,7 +13,7 @@ use Rattle.paper.specs.Calls.Call.{Receive}
 use Rattle.paper.specs.Layout.{view}
 use Rattle.paper.specs.Outcome.{Lent, outcome, spacesFor, standing}
 use Rattle.rules.specs.Checking.{tableAnswer, standing-check}
-use Rattle.kept.specs.Leaves.{whether-eq, whether-lt, whether-b}
+use Rattle.kept.specs.Leaves.{whether-eq, whether-b}
 use Rattle.entry.specs.declared.Reply.{Reply}
 use Rattle.entry.specs.Replies.{reply, Told, lent-same, by-standing, by-refusal, by-step}
 use Rattle.receiving.specs.declared.Received.{Received}

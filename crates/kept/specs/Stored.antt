@@ -1,15 +1,15 @@
 -- WHAT THE COMPONENTS OF A MESSAGE LEAVE of a control record can be stored, and its state is as it was. Assumes nothing.
-use mathlib.Core.Path.{_≡_, refl, sym, ap, subst, _∙_}
+use mathlib.Core.Path.{_≡_, refl, sym, subst, _∙_}
 use mathlib.Core.List.{List, [], _∷_}
-use Prim.Native.Nat.{ℕ, zero, suc, _+_, _*_, _/_, _%_, _≤_, _<_}
+use Prim.Native.Nat.{ℕ, _≤_, _<_}
 use native.Mathlib.Omega.{arith}
-use Rattle.laws.specs.If.{ifEq, by-eq, by-lt, by-b}
+use Rattle.laws.specs.If.{by-eq, by-lt, by-b}
 use Rattle.paper.specs.declared.Component.{Component}
 use Rattle.paper.specs.declared.Control.{Control}
 use Rattle.paper.specs.declared.Acted.{Acted}
 use Rattle.paper.specs.Components.{Item}
 use Rattle.paper.specs.Problems.{kindOf, codeOf, problem, general}
-use Rattle.paper.specs.Invocations.{stateOf, sent, wait, toState, toIdle, notLastShown, rejected, answerProblem, answersSent, answers, invokes, released, rejects, faultyReject, faults, act}
+use Rattle.paper.specs.Invocations.{wait, toState, toIdle, notLastShown, rejected, answerProblem, answersSent, answers, invokes, released, rejects, faultyReject, faults, act}
 use Rattle.paper.specs.Rows.{allActed}
 use Rattle.facts.specs.Fine.{Storable}
 use Rattle.facts.specs.Storables.{storable-to, storable-idle, storable-shown, storable-reject}

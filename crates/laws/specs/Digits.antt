@@ -2,10 +2,10 @@
 use Prim.Native.Nat.{ℕ, zero, suc, _+_, _*_, _-_, _/_, _%_, _^_, _≤_, _<_}
 use mathlib.Core.Path.{_≡_, refl, sym, ap, subst, _∙_}
 use mathlib.Core.List.{List, [], _∷_, _++_}
-use native.Mathlib.Nat.{pow-suc, one-mul, mod-eq-of-lt, add-assoc, suc-add, zero-add, mul-one, mul-assoc, mul-comm, div-div-eq-div-mul}
+use native.Mathlib.Nat.{pow-suc, one-mul, mod-eq-of-lt, add-assoc, suc-add, zero-add, mul-assoc, mul-comm, div-div-eq-div-mul}
 use native.Mathlib.Omega.{arith}
-use lib.ListN.{length, getD, set, take, drop, length-take, length-drop, length-append, List·getD-append, take-append-drop}
-use lib.Seq.{set-append-left, drop-cons, getD-append-add, length-take-le, take-at, drop-at, getD-drop}
+use lib.ListN.{length, getD, set, take, drop, length-drop, length-append, List·getD-append, take-append-drop}
+use lib.Seq.{set-append-left, getD-append-add, length-take-le, take-at, drop-at, getD-drop}
 use lib.Arith.{lt-one}
 use lib.Pow.{pow-lt}
 use lib.Count.{ones, ones-step, trailingZeros, under}

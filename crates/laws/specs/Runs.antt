@@ -1,12 +1,12 @@
 -- A written run, and its laws: runs join, and are read back. Assumes nothing.
 use mathlib.Core.Path.{_≡_, refl, sym, _∙_, ap, subst}
-use mathlib.Core.List.{List, [], _∷_, _++_, append-assoc, append-nil}
+use mathlib.Core.List.{List, [], _∷_, _++_}
 use Prim.Native.Nat.{ℕ, zero, suc, _+_, _<_, _≤_}
 use native.Mathlib.Nat.{add-zero, add-suc, suc-add}
 use native.Mathlib.Numerals.{add-one}
 use native.Mathlib.Omega.{arith}
 use lib.ListN.{length, set, getD, take, length-append, length-set}
-use lib.Seq.{sets, length-sets, take-suc, take-nil, getD-set-same, getD-set-other, set-comm}
+use lib.Seq.{sets, take-suc, getD-set-same, getD-set-other, set-comm}
 
 -- vs was written at `at`, and r is past it: nothing before and nothing after changed
 pub record Wrote (old : List ℕ) (at : ℕ) (vs : List ℕ) (r : ℕ) (new : List ℕ) : Type 0 where

@@ -1,11 +1,10 @@
 -- A FRESH TABLE: its octets, and the number that is answered (01, "Answer numbers": 1, 13 or 0). Assumes nothing.
 use mathlib.Core.Path.{_≡_, refl, sym, ap, _∙_}
-use mathlib.Core.Bool.{Bool, true, false}
-use mathlib.Core.List.{List, [], _∷_, _++_, append-assoc}
+use mathlib.Core.Bool.{true, false}
+use mathlib.Core.List.{List, [], _++_, append-assoc}
 use Prim.Native.Nat.{ℕ, zero, suc, _+_, _*_, _<_, _≤_}
 use native.Mathlib.Omega.{arith}
-use native.Mathlib.Nat.{suc-mul}
-use lib.ListN.{length, getD, take, drop, replicate, length-replicate, length-append, replicate-append-replicate}
+use lib.ListN.{length, getD, drop, replicate, length-replicate, length-append, replicate-append-replicate}
 use lib.Seq.{sets, sets-eq, drop-at}
 use lib.Dec.{leb}
 use borrow.Author.Tests.{le-leb, lt-leb}
@@ -13,13 +12,12 @@ use Rattle.laws.specs.If.{ifB, lt, ge, eq, ne, yes, no, was-eq, all, all-fails}
 use Rattle.laws.specs.Sums.{sum}
 use Rattle.laws.specs.Lists.{pad}
 use Rattle.laws.specs.Digits.{packedOctets, packed}
-use Rattle.laws.specs.Runs.{Wrote, wrote-more, join}
-use Rattle.paper.specs.Sizes.{placesInAll, services}
+use Rattle.laws.specs.Runs.{Wrote, wrote-more}
 use Rattle.paper.specs.Shares.{limitFits, sharesFit}
 use Rattle.paper.specs.Dialogues.{emptyPlace}
 use Rattle.paper.specs.Calls.{isFree, freshTable}
-use Rattle.paper.specs.Layout.{tableSize, placeOctets, allPlaces, flag, mapOctets, encode}
-use Rattle.paper.specs.Outcome.{Outcome, freshAnswer, freshOutcome, refusedBy}
+use Rattle.paper.specs.Layout.{placeOctets, allPlaces, flag, mapOctets, encode}
+use Rattle.paper.specs.Outcome.{freshAnswer, freshOutcome}
 use Rattle.entry.specs.declared.Reply.{Reply}
 use Rattle.entry.specs.Replies.{reply, Told, told}
 

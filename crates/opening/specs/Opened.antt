@@ -4,16 +4,14 @@ use mathlib.Core.Bool.{true, false}
 use mathlib.Core.List.{List, []}
 use Prim.Native.Nat.{ℕ, _<_}
 use native.Mathlib.Omega.{arith}
-use lib.ListN.{length, replicate}
-use lib.Seq.{sets}
+use lib.ListN.{replicate}
 use Rattle.laws.specs.If.{yes, no}
 use Rattle.paper.specs.Sizes.{localID}
 use Rattle.paper.specs.Dialogues.{begun, dialogueOpen}
-use Rattle.paper.specs.Calls.{Out, Table, placeAt, withPlace, mayBegin, lowestFree, openedAt, opened}
+use Rattle.paper.specs.Calls.{Out, placeAt, withPlace, mayBegin, lowestFree, openedAt, opened}
 use Rattle.paper.specs.Calls.Call.{Open}
 use Rattle.paper.specs.Layout.{flag, encode, view}
-use Rattle.paper.specs.Outcome.{Lent, outcome, given}
-use Rattle.facts.specs.Ready.{Ready}
+use Rattle.paper.specs.Outcome.{outcome}
 use Rattle.facts.specs.Storables.{storable-begun}
 use Rattle.places.specs.Storing.{Storing, withWaiting}
 use Rattle.entry.specs.declared.Reply.{Reply}

@@ -1,10 +1,10 @@
 -- THE CALLS: every request, received message and timer event as one step from a table (01, "Answer numbers" and
 -- "A received message"). Assumes nothing.
 use mathlib.Core.Bool.{Bool, true, false}
-use mathlib.Core.List.{List, [], _∷_, _++_}
-use Prim.Native.Nat.{ℕ, zero, suc, _+_, _*_, _-_, _/_, _%_}
+use mathlib.Core.List.{List, [], _∷_}
+use Prim.Native.Nat.{ℕ, _+_, _*_, _-_}
 use lib.ListN.{length, getD, set, take, drop, replicate}
-use lib.Dec.{eqb, ltb}
+use lib.Dec.{eqb}
 use Rattle.laws.specs.If.{ifLt, ifEq, ifB}
 use Rattle.laws.specs.Lists.{firstAt, pad}
 use Rattle.laws.specs.Sums.{sumBy}
@@ -19,7 +19,7 @@ use Rattle.paper.specs.Messages.{messageOf, isSound, isDropped, noRun, u
 use Rattle.paper.specs.Writing.{causeAbortOctets}
 use Rattle.paper.specs.Rows.{dialogueRow, componentRows, allActed, rowUni, rowBegin, rowContinue, rowEnd, rowUserAbort, rowAbort}
 use Rattle.paper.specs.Shares.{gives}
-use Rattle.paper.specs.Dialogues.{Place, Request, Done, request, emptyPlace, emptyControl, freed, begun, withControl, withState, dialogueFree, dialogueOpen, dialogueSent, dialogueReceived, dialogueActive}
+use Rattle.paper.specs.Dialogues.{Place, Request, Done, request, emptyPlace, emptyControl, freed, begun, withControl, dialogueFree, dialogueOpen, dialogueSent, dialogueReceived, dialogueActive}
 
 -- THE TABLE: shares and places
 pub record Table : Type 0 where

@@ -1,8 +1,7 @@
 -- ELEMENTS (01, "Coding"; 004). Positions into one list of octets; lim is where the octets around end. Assumes nothing.
-use mathlib.Core.Path.{_≡_}
 use mathlib.Core.List.{List}
 use mathlib.Core.Bool.{Bool, true, false}
-use Prim.Native.Nat.{ℕ, zero, suc, _+_, _*_, _-_, _/_, _%_, _<_, _≤_}
+use Prim.Native.Nat.{ℕ, zero, suc, _+_, _*_, _-_, _/_, _%_}
 use lib.ListN.{getD}
 use lib.Dec.{eqb}
 use Rattle.laws.specs.If.{ifLt, ifEq}

@@ -2,13 +2,12 @@
 use mathlib.Core.Path.{_≡_, refl}
 use mathlib.Core.List.{List, [], _∷_, map}
 use Prim.Native.Nat.{ℕ, zero, suc}
-use lib.ListN.{length, replicate, take}
+use lib.ListN.{replicate}
 use Rattle.paper.specs.declared.Row.{Row}
-use Rattle.paper.specs.declared.Invocation.{Invocation}
 use Rattle.paper.specs.Invocations.{stateOf, sent, wait}
-use Rattle.paper.specs.Dialogues.{Request, waitingRejects, dialogueActive}
+use Rattle.paper.specs.Dialogues.{waitingRejects, dialogueActive}
 use Rattle.paper.specs.Dialogues.Request.{Invoke, Begin, Prearranged}
-use Rattle.paper.specs.Calls.{Table, Call, Out, freshTable, placeAt}
+use Rattle.paper.specs.Calls.{Table, Out, freshTable, placeAt}
 use Rattle.paper.specs.Calls.Call.{Open, OnDialogue, Receive}
 use Rattle.paper.specs.Computing.{computed}
 

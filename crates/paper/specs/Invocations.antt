@@ -1,9 +1,9 @@
 -- INVOCATION STATES (01, "Invocation states"; 003): what a request, a component or a timer does to a dialogue's invocations. Assumes nothing.
 use mathlib.Core.Bool.{Bool, true, false}
-use mathlib.Core.List.{List, [], _∷_, map}
-use Prim.Native.Nat.{ℕ, zero, suc, _+_, _*_, _-_, _/_, _%_}
-use lib.ListN.{length, getD, set}
-use lib.Dec.{eqb, ltb}
+use mathlib.Core.List.{List, map}
+use Prim.Native.Nat.{ℕ, zero, _+_, _-_}
+use lib.ListN.{getD, set}
+use lib.Dec.{eqb}
 use Rattle.laws.specs.If.{ifLt, ifEq, ifB}
 use Rattle.laws.specs.Lists.{firstAt}
 use Rattle.paper.specs.declared.Component.{Component}

@@ -1,8 +1,7 @@
 -- THE OUTCOME OF A CALL AT OCTETS: what a contract says. Assumes nothing.
 use mathlib.Core.Path.{_≡_, sym, _∙_}
-use mathlib.Core.Bool.{Bool, true, false}
-use mathlib.Core.List.{List, [], _∷_}
-use Prim.Native.Nat.{ℕ, zero, suc, _+_}
+use mathlib.Core.List.{List, []}
+use Prim.Native.Nat.{ℕ, zero, suc}
 use lib.ListN.{length, getD}
 use lib.Seq.{sets}
 use Rattle.laws.specs.If.{ifLt, ifEq, ifB}

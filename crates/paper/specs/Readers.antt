@@ -1,7 +1,6 @@
 -- THE READERS (01, "Rows"): a component's parameter; the components of one message. They look at no table. Assumes nothing.
-use mathlib.Core.Bool.{Bool, true, false}
 use mathlib.Core.List.{List, [], _∷_}
-use Prim.Native.Nat.{ℕ, zero, suc, _+_, _-_}
+use Prim.Native.Nat.{ℕ, _+_, _-_}
 use lib.ListN.{length, take, drop}
 use Rattle.laws.specs.If.{ifLt, ifEq}
 use Rattle.paper.specs.declared.Run.{Run}

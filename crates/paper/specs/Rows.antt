@@ -1,15 +1,14 @@
 -- ROWS (01, "Rows"). Assumes nothing.
 use mathlib.Core.List.{List, [], _∷_, _++_}
-use Prim.Native.Nat.{ℕ, zero, suc, _+_, _*_, _-_, _/_, _%_}
+use Prim.Native.Nat.{ℕ, _+_, _-_, _/_, _%_}
 use lib.ListN.{length}
-use Rattle.laws.specs.If.{ifLt, ifEq}
+use Rattle.laws.specs.If.{ifLt}
 use Rattle.paper.specs.declared.Component.{Component}
 use Rattle.paper.specs.declared.Run.{Run}
 use Rattle.paper.specs.declared.Control.{Control}
 use Rattle.paper.specs.declared.Row.{Row}
 use Rattle.paper.specs.Problems.{noProblem}
 use Rattle.paper.specs.Components.{Item, noID}
-use Rattle.paper.specs.Messages.{noRun}
 use Rattle.paper.specs.Invocations.{act}
 
 -- "Kinds 1 UNI, 2 BEGIN, 3 CONTINUE, 4 END, 5 U-ABORT, 6 P-ABORT, 7 INVOKE, 8 RESULT-L, 9 RESULT-NL, 10 U-ERROR, 11 U-REJECT,

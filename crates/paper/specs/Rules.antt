@@ -1,19 +1,19 @@
 -- THE TABLE RULES (01, "Answer numbers"), as a test of the octets lent. Assumes nothing.
 use mathlib.Core.Bool.{Bool, true, false}
 use mathlib.Core.List.{List, [], _∷_}
-use Prim.Native.Nat.{ℕ, zero, suc, _+_, _*_, _-_, _/_, _%_}
-use lib.ListN.{length, getD, take, drop}
-use lib.Dec.{eqb, ltb, leb}
+use Prim.Native.Nat.{ℕ, zero, suc, _+_, _-_}
+use lib.ListN.{length, getD, drop}
+use lib.Dec.{eqb, leb}
 use Rattle.laws.specs.If.{ifLt, ifEq, ifB, all}
 use Rattle.laws.specs.Lists.{zeros, every}
 use Rattle.paper.specs.declared.Invocation.{Invocation}
 use Rattle.paper.specs.declared.Reject.{Reject}
 use Rattle.paper.specs.declared.Control.{Control}
-use Rattle.paper.specs.Sizes.{placesInAll, services, mostInvocations, mostRejects, mostWaiting}
+use Rattle.paper.specs.Sizes.{placesInAll, services, mostRejects, mostWaiting}
 use Rattle.paper.specs.Problems.{senderOfProblem, byLayer, kindOf}
 use Rattle.paper.specs.Components.{Item, noID, components}
-use Rattle.paper.specs.Invocations.{idle, isOpen, slotOf}
-use Rattle.paper.specs.Dialogues.{Place, dialogueFree, dialogueReceived, dialogueActive}
+use Rattle.paper.specs.Invocations.{idle, slotOf}
+use Rattle.paper.specs.Dialogues.{dialogueFree, dialogueReceived, dialogueActive}
 use Rattle.paper.specs.Shares.{sharesFit, sharesKept}
 use Rattle.paper.specs.Calls.{Table, guaranteeOf, limitOf, held}
 use Rattle.paper.specs.Layout.{waitingStart, placeBy, slot, mapBit, view}

@@ -1,7 +1,7 @@
 -- SHARES (demand 3), over any number of places N and services n: g guarantees, l limits, c counts. Assumes nothing.
 use mathlib.Core.Bool.{Bool, true, false}
-use Prim.Native.Nat.{ℕ, zero, suc, _+_, _-_}
-use lib.Dec.{eqb, ltb, leb}
+use Prim.Native.Nat.{ℕ, _-_}
+use lib.Dec.{leb}
 use Rattle.laws.specs.If.{ifLt, ifEq, ifB, all}
 use Rattle.laws.specs.Sums.{sum, but}
 

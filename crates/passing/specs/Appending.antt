@@ -1,6 +1,6 @@
 -- A COMPONENT WRITTEN after those that wait, straight into the table. Assumes nothing.
-use mathlib.Core.Path.{_≡_, refl, sym, ap, subst, _∙_}
-use mathlib.Core.List.{List, [], _++_}
+use mathlib.Core.Path.{_≡_, sym, ap, _∙_}
+use mathlib.Core.List.{List, _++_}
 use Prim.Native.Nat.{ℕ, _+_, _*_, _-_, _<_, _≤_}
 use native.Mathlib.Omega.{arith}
 use lib.ListN.{length}
@@ -8,7 +8,7 @@ use lib.Seq.{sets}
 use Rattle.laws.specs.Parts.{over}
 use Rattle.laws.specs.Runs.{Wrote}
 use Rattle.paper.specs.declared.Control.{Control}
-use Rattle.paper.specs.Dialogues.{Place, Request, refusal, does, passing}
+use Rattle.paper.specs.Dialogues.{Request, refusal, does, passing}
 use Rattle.paper.specs.Calls.{placeAt, withPlace}
 use Rattle.paper.specs.Calls.Call.{OnDialogue}
 use Rattle.paper.specs.Layout.{placeStart, encode, view}

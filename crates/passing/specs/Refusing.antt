@@ -2,27 +2,25 @@
 use mathlib.Core.Path.{_≡_, refl, sym, ap, subst, _∙_}
 use mathlib.Core.Bool.{Bool, true, false}
 use mathlib.Core.List.{List}
-use Prim.Native.Nat.{ℕ, _+_, _*_, _-_, _/_, _%_, _<_, _≤_}
+use Prim.Native.Nat.{ℕ, _+_, _-_, _<_, _≤_}
 use native.Mathlib.Omega.{arith}
 use lib.Dec.{ltb}
 use borrow.Author.Tests.{ltb-true, ltb-false}
-use lib.ListN.{length, getD, List·getD-eq-default}
-use Rattle.laws.specs.If.{ifLt, ifEq, ifB, lt, ge, eq, ne, yes, no, was-lt, was-ge, was-eq, was-yes, by-eq, true-false}
+use lib.ListN.{length, List·getD-eq-default}
+use Rattle.laws.specs.If.{ifLt, ifEq, ifB, lt, ge, eq, ne, yes, no, was-ge, was-eq, was-yes, by-eq, true-false}
 use Rattle.paper.specs.declared.Invocation.{Invocation}
-use Rattle.paper.specs.declared.Control.{Control}
-use Rattle.paper.specs.Problems.{senderOf, senderOfProblem, byUser, kindOf, codeOf}
+use Rattle.paper.specs.Problems.{senderOf, kindOf, codeOf}
 use Rattle.paper.specs.Writing.{invokeOctets, resultOctets, errorOctets, rejectOctets}
-use Rattle.paper.specs.Invocations.{noInvocation, idle, slotOf, idleSlot, invocationOf, stateOf, mayReject, passed, toState, rejecting}
-use Rattle.paper.specs.Dialogues.{Place, isCode, isParameter, isResult, overfull, dialogueOpen, invokeRefusal, resultRefusal, errorRefusal, rejectRefusal, rejectedBy}
+use Rattle.paper.specs.Invocations.{noInvocation, slotOf, idleSlot, invocationOf, stateOf, mayReject, passed, toState, rejecting}
+use Rattle.paper.specs.Dialogues.{Place, isCode, isParameter, isResult, overfull, invokeRefusal, resultRefusal, errorRefusal, rejectRefusal, rejectedBy}
 use Rattle.paper.specs.Calls.{placeAt}
 use Rattle.paper.specs.Layout.{view}
-use Rattle.writing.specs.Lengths.{elementSize, invokeSize, resultSize, errorSize, rejectSize, plain-size, linked-size, invoke-length, result-length, error-length, reject-length, some-size}
+use Rattle.writing.specs.Lengths.{elementSize, resultSize, plain-size, linked-size, invoke-length, result-length, error-length, reject-length, some-size}
 use Rattle.given.specs.Pieces.{piecesRefusal, bothRefusal}
 use Rattle.facts.specs.Octets.{fine-storable}
 use Rattle.facts.specs.Storables.{storable-passed, storable-to}
 use Rattle.places.specs.Storing.{Storing}
 use Rattle.entry.specs.Prologue.{Used, used-storing}
-use Rattle.passing.specs.Appending.{Appending}
 
 -- the octets before an invoke's operation: the linked ID, 256 none, takes three
 unfoldable pub frontOf : ℕ → ℕ

@@ -6,7 +6,7 @@ use paper::FIRST_WAITING;
 use paper::PLACE_OCTETS;
 ghost use mathlib.Core.Path.{_≡_};
 ghost use mathlib.Core.List.{[], _++_};
-ghost use Prim.Native.Nat.{ℕ, _<_, _≤_};
+ghost use Prim.Native.Nat.{_<_, _≤_};
 ghost use lib.ListN.{length};
 ghost use Rattle.paper.specs.Problems.{kindOf};
 ghost use Rattle.paper.specs.Writing.{invokeOctets, resultOctets, errorOctets, rejectOctets};

@@ -1,14 +1,12 @@
 -- The octets of a control record as the code makes them: what goes into some bits is taken by a remainder, so that no sum of
 -- octets can wrap. Assumes nothing.
-use Prim.Native.Nat.{ℕ, zero, suc, _+_, _*_, _/_, _%_}
+use Prim.Native.Nat.{ℕ, _+_, _*_, _/_, _%_}
 use mathlib.Core.List.{List, [], _∷_}
 use lib.ListN.{getD}
 use Rattle.paper.specs.declared.Invocation.{Invocation}
 use Rattle.paper.specs.declared.Reject.{Reject}
 use Rattle.paper.specs.declared.Control.{Control}
 use Rattle.paper.specs.Sizes.{three}
-use Rattle.paper.specs.Invocations.{noInvocation}
-use Rattle.paper.specs.Dialogues.{noReject}
 
 abbrev pub headOctets : Control → ℕ → List ℕ
 headOctets c n =

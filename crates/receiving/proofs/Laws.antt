@@ -2,28 +2,26 @@
 use mathlib.Core.Path.{_≡_, refl, sym, ap, subst, _∙_}
 use mathlib.Core.Bool.{Bool, true, false}
 use mathlib.Core.List.{List, [], _∷_, _++_}
-use Prim.Native.Nat.{ℕ, zero, suc, _+_, _*_, _-_, _<_, _≤_}
+use Prim.Native.Nat.{ℕ, zero, suc, _+_, _-_, _<_, _≤_}
 use native.Mathlib.Omega.{arith}
 use lib.Dec.{ltb}
-use lib.ListN.{length, getD, take, drop, length-append, length-take, List·getD-eq-default}
+use lib.ListN.{length, getD, take, drop, length-append, List·getD-eq-default}
 use lib.Seq.{sets, getD-take, getD-drop}
-use Rattle.laws.specs.If.{ifEq, ifB, eq, ne, yes, no, by-eq, was-eq, was-yes, true-false}
+use Rattle.laws.specs.If.{ifEq, eq, ne, yes, no, by-eq, was-eq, was-yes, true-false}
 use Rattle.laws.specs.Lists.{pad}
 use Rattle.laws.specs.Runs.{Wrote, join-before}
-use Rattle.paper.specs.declared.Run.{Run}
 use Rattle.paper.specs.declared.Message.{Message}
-use Rattle.paper.specs.declared.Component.{Component}
 use Rattle.paper.specs.declared.Control.{Control}
 use Rattle.paper.specs.declared.Row.{Row}
 use Rattle.paper.specs.Sizes.{placeOf, localID}
 use Rattle.paper.specs.Problems.{noProblem}
 use Rattle.paper.specs.Messages.{abortTag, noRun}
-use Rattle.paper.specs.Components.{Item, item, items, components, componentAt, goOn, nextStart}
-use Rattle.paper.specs.Writing.{tlv, lengthOctets, causeAbortOctets}
+use Rattle.paper.specs.Components.{Item, items, components, componentAt, goOn, nextStart}
+use Rattle.paper.specs.Writing.{tlv, causeAbortOctets}
 use Rattle.paper.specs.Rows.{dialogueRow, rowOctets, rowsOctets, componentRows, allActed, rowUni, rowBegin, rowContinue, rowEnd, rowUserAbort, rowAbort}
-use Rattle.paper.specs.Dialogues.{Place, begun, freed, withControl, emptyControl, dialogueOpen, dialogueReceived, dialogueSent, dialogueActive}
-use Rattle.paper.specs.Calls.{Table, Out, refuse, shows, placeAt, withPlace, owns, octetsAt, numberAt, destinationNumber, assigned, faultedAt, faulted, itemsOf, shownRows, uniReceived, begunControl, beginAt, withPeer, continuedControl, continueReceived, endReceived, abortReceived, lowestFree, mayBegin}
-use Rattle.paper.specs.Layout.{flag, encode, view}
+use Rattle.paper.specs.Dialogues.{begun, freed, withControl, emptyControl, dialogueReceived}
+use Rattle.paper.specs.Calls.{Table, Out, refuse, shows, placeAt, withPlace, owns, octetsAt, destinationNumber, assigned, faultedAt, faulted, itemsOf, uniReceived, begunControl, beginAt, continuedControl, continueReceived, endReceived, abortReceived, lowestFree, mayBegin}
+use Rattle.paper.specs.Layout.{encode, view}
 use Rattle.facts.specs.Fine.{Octets, Storable}
 use Rattle.facts.specs.Zeros.{pad-length}
 use Rattle.facts.specs.Octets.{fine-storable}
@@ -32,13 +30,12 @@ use Rattle.facts.specs.Ready.{Ready}
 use Rattle.facts.specs.Owners.{Owned, owned-is}
 use Rattle.facts.specs.Counts.{lowest-is-free}
 use Rattle.facts.specs.Storables.{storable-peer, storable-begun}
-use Rattle.kept.specs.Stored.{Small, AllSmall, Still, all-acted-still}
+use Rattle.kept.specs.Stored.{AllSmall, Still, all-acted-still}
 use Rattle.places.specs.Storing.{Storing, withWaiting}
 use Rattle.components.specs.Bounds.{component-in}
 use Rattle.writing.specs.Lengths.{element-length, length-small}
 use Rattle.shows.specs.declared.Shown.{Shown}
 use Rattle.shows.specs.Shows.{Shows}
-use Rattle.receiving.specs.declared.Received.{Received}
 use Rattle.receiving.specs.declared.Counted.{Counted}
 use Rattle.receiving.specs.Receives.{Read, Standing, Counts, Rowed, Leaves, Receives}
 use Rattle.receiving.specs.Room.{may-there}

@@ -1,17 +1,16 @@
 -- What a received message needs, and what it leaves of the table, the rows and the message space. Assumes nothing.
-use mathlib.Core.Path.{_≡_, refl, sym, ap, subst, _∙_}
+use mathlib.Core.Path.{_≡_, sym, ap, subst}
 use mathlib.Core.List.{List, []}
-use Prim.Native.Nat.{ℕ, _+_, _<_, _≤_}
+use Prim.Native.Nat.{ℕ, _<_, _≤_}
 use lib.ListN.{length}
 use lib.Seq.{sets}
 use Rattle.laws.specs.Sums.{sum}
 use Rattle.paper.specs.declared.Message.{Message}
 use Rattle.paper.specs.declared.Control.{Control}
-use Rattle.paper.specs.declared.Row.{Row}
-use Rattle.paper.specs.Sizes.{placesInAll, services, placeOf}
+use Rattle.paper.specs.Sizes.{placesInAll, services}
 use Rattle.paper.specs.Rows.{allActed, rowsOctets}
 use Rattle.paper.specs.Shares.{unused, free}
-use Rattle.paper.specs.Calls.{Table, Out, placeAt, guaranteeOf, limitOf, held, itemsOf, shownRows}
+use Rattle.paper.specs.Calls.{Out, placeAt, guaranteeOf, held, itemsOf, shownRows}
 use Rattle.paper.specs.Layout.{flag, encode, view}
 use Rattle.facts.specs.Fine.{Octets}
 use Rattle.facts.specs.Ready.{Ready}

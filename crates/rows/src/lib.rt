@@ -1,6 +1,6 @@
 // Rows: eight numbers of four octets, least significant first (01, "Rows").
 ghost use mathlib.Core.Path.{_≡_};
-ghost use Prim.Native.Nat.{ℕ, _+_, _*_, _-_, _<_, _≤_};
+ghost use Prim.Native.Nat.{_+_, _*_, _-_, _<_, _≤_};
 ghost use lib.ListN.{length};
 ghost use lib.Seq.{sets};
 ghost use Rattle.paper.specs.Rows.{signed, startOf, extentOf, dialogueRow, cancelRow, componentRow, rowOctets};

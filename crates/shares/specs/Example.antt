@@ -1,7 +1,7 @@
 -- "Guarantees 2 and 3 for services 0 and 1, limits 128 and 3, others 0: service 0 alone gets 125." (01, "Octets to try") Assumes nothing.
 use mathlib.Core.Path.{_≡_, refl}
-use mathlib.Core.Bool.{Bool, true, false, cond}
-use Prim.Native.Nat.{ℕ, zero, suc, _+_}
+use mathlib.Core.Bool.{cond}
+use Prim.Native.Nat.{ℕ, zero, suc}
 use Rattle.laws.specs.If.{ifLt, ifEq}
 use Rattle.laws.specs.Sums.{but}
 use Rattle.paper.specs.Sizes.{placesInAll, services}

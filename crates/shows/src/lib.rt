@@ -1,6 +1,6 @@
 // The components of a received message, one after another: each acts on the dialogue's control record and has its row.
 ghost use mathlib.Core.Path.{_≡_};
-ghost use Prim.Native.Nat.{ℕ, _+_, _*_, _-_, _<_, _≤_};
+ghost use Prim.Native.Nat.{_+_, _-_, _<_, _≤_};
 ghost use lib.ListN.{length};
 ghost use Rattle.paper.specs.Components.{components, nextStart};
 ghost use Rattle.paper.specs.declared.Control.{Control};

@@ -4,7 +4,7 @@ use paper::LEAST_ROWS;
 use paper::Run;
 ghost use mathlib.Core.Path.{_≡_};
 ghost use mathlib.Core.List.{[]};
-ghost use Prim.Native.Nat.{ℕ, _<_};
+ghost use Prim.Native.Nat.{_<_};
 ghost use Rattle.paper.specs.Invocations.{invocationOf};
 ghost use Rattle.paper.specs.Dialogues.Request.{Cancel, Prearranged, Timeout, RejectTimeout, NoReaction};
 ghost use Rattle.paper.specs.Calls.{placeAt};

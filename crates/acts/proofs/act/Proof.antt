@@ -6,13 +6,6 @@ use Rattle.paper.specs.Invocations.{act}
 use borrow.Author.Needs.{needs}
 use Rattle.acts.proofs.act.Statement.{statement}
 use Rattle.acts.proofs.act.Tie as tie
-use Rattle.acts.proofs.act.Reads as reads
-use Rattle.acts.proofs.act.Lts as lts
-use Rattle.acts.proofs.answer.Reads as answer-reads
-use Rattle.acts.proofs.fault.Reads as fault-reads
-use Rattle.acts.proofs.invoke.Reads as invoke-reads
-use Rattle.acts.proofs.reject.Reads as reject-reads
-use Rattle.acts.proofs.stored_kind.Reads as stored-kind-reads
 
 stored-kind-requires : tie.Need-stored-kind-requires
 stored-kind-requires c κs = search needs

@@ -6,13 +6,6 @@ use Rattle.paper.specs.Invocations.{answers, rejected}
 use borrow.Author.Needs.{needs}
 use Rattle.acts.proofs.answer.Statement.{statement}
 use Rattle.acts.proofs.answer.Tie as tie
-use Rattle.acts.proofs.answer.Reads as reads
-use Rattle.acts.proofs.answer.Lts as lts
-use Rattle.acts.proofs.answer_problem.Reads as answer-problem-reads
-use Rattle.acts.proofs.answer_sent.Reads as answer-sent-reads
-use Rattle.acts.proofs.stays.Reads as stays-reads
-use Rattle.invocations.proofs.slot_of.Reads as slot-of-reads
-use Rattle.invocations.proofs.state_at.Reads as state-at-reads
 
 slot-of-requires : tie.Need-slot-of-requires
 slot-of-requires c κs = search needs

@@ -4,8 +4,6 @@ use Rattle.laws.specs.If.{eq, ne}
 use Rattle.paper.specs.Invocations.{answerKind}
 use Rattle.acts.proofs.answer_kind.Statement.{statement}
 use Rattle.acts.proofs.answer_kind.Tie as tie
-use Rattle.acts.proofs.answer_kind.Reads as reads
-use Rattle.acts.proofs.answer_kind.Lts as lts
 
 returns : tie.Need-returns
 unfolding answerKind

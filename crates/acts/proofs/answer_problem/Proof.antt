@@ -1,12 +1,9 @@
 use native.Mathlib.Omega.{arith}
-use mathlib.Core.Path.{_≡_, refl, sym, ap, _∙_}
-use Rattle.laws.specs.If.{lt, ge, eq, ne, yes, no}
+use Rattle.laws.specs.If.{eq, ne}
 use Rattle.paper.specs.Invocations.{answerProblem}
 use borrow.Author.Needs.{needs}
 use Rattle.acts.proofs.answer_problem.Statement.{statement}
 use Rattle.acts.proofs.answer_problem.Tie as tie
-use Rattle.acts.proofs.answer_problem.Reads as reads
-use Rattle.acts.proofs.answer_problem.Lts as lts
 
 -- src/lib.rt:224:16
 add-result : tie.Need-add-result

@@ -3,13 +3,6 @@ use Rattle.acts.specs.Told.{sent-rejected, sent-shown, sent-waits}
 use borrow.Author.Needs.{needs}
 use Rattle.acts.proofs.answer_sent.Statement.{statement}
 use Rattle.acts.proofs.answer_sent.Tie as tie
-use Rattle.acts.proofs.answer_sent.Reads as reads
-use Rattle.acts.proofs.answer_sent.Lts as lts
-use Rattle.acts.proofs.answer_kind.Reads as answer-kind-reads
-use Rattle.acts.proofs.answer_problem.Reads as answer-problem-reads
-use Rattle.acts.proofs.moved.Reads as moved-reads
-use Rattle.acts.proofs.takes.Reads as takes-reads
-use Rattle.invocations.proofs.no_invocation.Reads as no-invocation-reads
 
 mul-v : tie.Need-mul-v
 mul-v c = search needs

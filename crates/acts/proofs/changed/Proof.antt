@@ -7,10 +7,6 @@ use Rattle.paper.specs.declared.Control.{Control}
 use borrow.Author.Needs.{needs}
 use Rattle.acts.proofs.changed.Statement.{statement}
 use Rattle.acts.proofs.changed.Tie as tie
-use Rattle.acts.proofs.changed.Reads as reads
-use Rattle.acts.proofs.changed.Lts as lts
-use Rattle.acts.proofs.put_at.Reads as put-at-reads
-use Rattle.acts.proofs.wait.Reads as wait-reads
 
 put-at-requires : tie.Need-put-at-requires
 put-at-requires c κs = search needs

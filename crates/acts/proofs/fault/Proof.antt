@@ -6,11 +6,6 @@ use Rattle.paper.specs.Invocations.{faults, faultyReject, released, rejected}
 use borrow.Author.Needs.{needs}
 use Rattle.acts.proofs.fault.Statement.{statement}
 use Rattle.acts.proofs.fault.Tie as tie
-use Rattle.acts.proofs.fault.Reads as reads
-use Rattle.acts.proofs.fault.Lts as lts
-use Rattle.acts.proofs.is_answer.Reads as is-answer-reads
-use Rattle.acts.proofs.release.Reads as release-reads
-use Rattle.acts.proofs.stays.Reads as stays-reads
 
 cast-code : tie.Need-cast-code
 cast-code c = search needs

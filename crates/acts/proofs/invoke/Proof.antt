@@ -8,10 +8,6 @@ use Rattle.paper.specs.Invocations.{invokes, invocationOf}
 use borrow.Author.Needs.{needs}
 use Rattle.acts.proofs.invoke.Statement.{statement}
 use Rattle.acts.proofs.invoke.Tie as tie
-use Rattle.acts.proofs.invoke.Reads as reads
-use Rattle.acts.proofs.invoke.Lts as lts
-use Rattle.acts.proofs.stays.Reads as stays-reads
-use Rattle.invocations.proofs.state_of.Reads as state-of-reads
 
 stays-requires : tie.Need-stays-requires
 stays-requires c κs = search needs

@@ -1,11 +1,9 @@
 use native.Mathlib.Omega.{arith}
-use mathlib.Core.Path.{_≡_, refl, sym, ap, _∙_}
-use Rattle.laws.specs.If.{lt, ge, eq, ne, yes, no}
+use mathlib.Core.Path.{refl}
+use Rattle.laws.specs.If.{eq, ne}
 use Rattle.paper.specs.Invocations.{isAnswer}
 use Rattle.acts.proofs.is_answer.Statement.{statement}
 use Rattle.acts.proofs.is_answer.Tie as tie
-use Rattle.acts.proofs.is_answer.Reads as reads
-use Rattle.acts.proofs.is_answer.Lts as lts
 
 -- src/lib.rt:389:9
 returns : tie.Need-returns

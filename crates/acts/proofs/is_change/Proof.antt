@@ -3,8 +3,6 @@ use Rattle.acts.specs.Told.{told-nothing}
 use borrow.Author.Tests.{ltb-false}
 use Rattle.acts.proofs.is_change.Statement.{statement}
 use Rattle.acts.proofs.is_change.Tie as tie
-use Rattle.acts.proofs.is_change.Reads as reads
-use Rattle.acts.proofs.is_change.Lts as lts
 
 returns : tie.Need-returns
 returns c = λ h. absurd (true-false h)

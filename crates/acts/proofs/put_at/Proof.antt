@@ -6,9 +6,6 @@ use Rattle.acts.specs.Told.{putAt}
 use borrow.Author.Needs.{needs}
 use Rattle.acts.proofs.put_at.Statement.{statement}
 use Rattle.acts.proofs.put_at.Tie as tie
-use Rattle.acts.proofs.put_at.Reads as reads
-use Rattle.acts.proofs.put_at.Lts as lts
-use Rattle.invocations.proofs.put_invocation.Reads as put-invocation-reads
 
 put-invocation-requires : tie.Need-put-invocation-requires
 put-invocation-requires c κs = search needs

@@ -7,11 +7,6 @@ use Rattle.paper.specs.Invocations.{rejects, acted}
 use borrow.Author.Needs.{needs}
 use Rattle.acts.proofs.reject.Statement.{statement}
 use Rattle.acts.proofs.reject.Tie as tie
-use Rattle.acts.proofs.reject.Reads as reads
-use Rattle.acts.proofs.reject.Lts as lts
-use Rattle.acts.proofs.reject_kind.Reads as reject-kind-reads
-use Rattle.acts.proofs.release.Reads as release-reads
-use Rattle.acts.proofs.stays.Reads as stays-reads
 
 reject-kind-requires : tie.Need-reject-kind-requires
 reject-kind-requires c κs = search needs

@@ -5,9 +5,6 @@ use Rattle.paper.specs.Invocations.{rejectKind}
 use borrow.Author.Needs.{needs}
 use Rattle.acts.proofs.reject_kind.Statement.{statement}
 use Rattle.acts.proofs.reject_kind.Tie as tie
-use Rattle.acts.proofs.reject_kind.Reads as reads
-use Rattle.acts.proofs.reject_kind.Lts as lts
-use Rattle.problems.proofs.sender.Reads as sender-reads
 
 sender-requires : tie.Need-sender-requires
 sender-requires c κs = search needs

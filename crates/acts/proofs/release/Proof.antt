@@ -5,12 +5,6 @@ use Rattle.acts.specs.Told.{release-put, release-none}
 use borrow.Author.Needs.{needs}
 use Rattle.acts.proofs.release.Statement.{statement}
 use Rattle.acts.proofs.release.Tie as tie
-use Rattle.acts.proofs.release.Reads as reads
-use Rattle.acts.proofs.release.Lts as lts
-use Rattle.acts.proofs.stays.Reads as stays-reads
-use Rattle.invocations.proofs.no_invocation.Reads as no-invocation-reads
-use Rattle.invocations.proofs.slot_of.Reads as slot-of-reads
-use Rattle.invocations.proofs.state_at.Reads as state-at-reads
 
 slot-of-requires : tie.Need-slot-of-requires
 slot-of-requires c κs = search needs

@@ -3,9 +3,6 @@ use Rattle.paper.specs.declared.Invocation.{Invocation}
 use borrow.Author.Needs.{needs}
 use Rattle.acts.proofs.stays.Statement.{statement}
 use Rattle.acts.proofs.stays.Tie as tie
-use Rattle.acts.proofs.stays.Reads as reads
-use Rattle.acts.proofs.stays.Lts as lts
-use Rattle.invocations.proofs.no_invocation.Reads as no-invocation-reads
 
 no-invocation-requires : tie.Need-no-invocation-requires
 no-invocation-requires c κs = search needs

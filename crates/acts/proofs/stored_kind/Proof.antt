@@ -4,8 +4,6 @@ use Rattle.laws.specs.If.{lt, ge}
 use Rattle.acts.specs.Told.{storedKind}
 use Rattle.acts.proofs.stored_kind.Statement.{statement}
 use Rattle.acts.proofs.stored_kind.Tie as tie
-use Rattle.acts.proofs.stored_kind.Reads as reads
-use Rattle.acts.proofs.stored_kind.Lts as lts
 
 returns : tie.Need-returns
 unfolding storedKind

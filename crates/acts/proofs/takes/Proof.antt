@@ -2,8 +2,6 @@ use Rattle.paper.specs.Invocations.{takes}
 use Rattle.laws.specs.Picks.{picks}
 use Rattle.acts.proofs.takes.Statement.{statement}
 use Rattle.acts.proofs.takes.Tie as tie
-use Rattle.acts.proofs.takes.Reads as reads
-use Rattle.acts.proofs.takes.Lts as lts
 
 -- src/lib.rt:181:13
 returns : tie.Need-returns

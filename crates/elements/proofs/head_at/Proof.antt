@@ -7,11 +7,6 @@ use Rattle.elements.specs.Short.{short}
 use borrow.Author.Needs.{needs}
 use Rattle.elements.proofs.head_at.Statement.{statement}
 use Rattle.elements.proofs.head_at.Tie as tie
-use Rattle.elements.proofs.head_at.Reads as reads
-use Rattle.elements.proofs.head_at.Lts as lts
-use Rattle.elements.proofs.any_head.Reads as any-head-reads
-use Rattle.elements.proofs.is_short.Reads as is-short-reads
-use Rattle.elements.proofs.short_head.Reads as short-head-reads
 
 returns : tie.Need-returns
 unfolding tagEnd

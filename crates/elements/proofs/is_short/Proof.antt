@@ -1,11 +1,8 @@
 use mathlib.Core.Path.{sym}
-use borrow.Author.Tests.{ltb-true}
 use Rattle.laws.specs.If.{true-false}
 use borrow.Author.Needs.{needs}
 use Rattle.elements.proofs.is_short.Statement.{statement}
 use Rattle.elements.proofs.is_short.Tie as tie
-use Rattle.elements.proofs.is_short.Reads as reads
-use Rattle.elements.proofs.is_short.Lts as lts
 
 returns : tie.Need-returns
 returns c = λ h. absurd (true-false (sym h))

@@ -1,16 +1,10 @@
 use Rattle.elements.specs.Steps.{by-head, nesting-told}
 use Rattle.elements.specs.Bounds.{HeadIn, element-in}
-use mathlib.Core.Path.{refl, sym, _∙_, subst}
+use mathlib.Core.Path.{sym, _∙_, subst}
 use native.Mathlib.Omega.{arith}
 use borrow.Author.Needs.{needs}
 use Rattle.elements.proofs.nesting_at.Statement.{statement}
 use Rattle.elements.proofs.nesting_at.Tie as tie
-use Rattle.elements.proofs.nesting_at.Reads as reads
-use Rattle.elements.proofs.nesting_at.Lts as lts
-use Rattle.elements.proofs.contents.Reads as contents-reads
-use Rattle.elements.proofs.head_at.Reads as head-at-reads
-use Rattle.elements.proofs.sound.Reads as sound-reads
-use Rattle.elements.proofs.unsound.Reads as unsound-reads
 
 head-at-requires : tie.Need-head-at-requires
 head-at-requires c κs = search needs

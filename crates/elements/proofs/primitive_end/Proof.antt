@@ -6,10 +6,6 @@ use native.Mathlib.Omega.{arith}
 use borrow.Author.Needs.{needs}
 use Rattle.elements.proofs.primitive_end.Statement.{statement}
 use Rattle.elements.proofs.primitive_end.Tie as tie
-use Rattle.elements.proofs.primitive_end.Reads as reads
-use Rattle.elements.proofs.primitive_end.Lts as lts
-use Rattle.elements.proofs.is_short.Reads as is-short-reads
-use Rattle.elements.proofs.short_head.Reads as short-head-reads
 
 returns : tie.Need-returns
 returns c = (λ h. absurd (omega arith), λ h. absurd (omega arith))

@@ -6,9 +6,6 @@ use native.Mathlib.Omega.{arith}
 use borrow.Author.Needs.{needs}
 use Rattle.elements.proofs.short_head.Statement.{statement}
 use Rattle.elements.proofs.short_head.Tie as tie
-use Rattle.elements.proofs.short_head.Reads as reads
-use Rattle.elements.proofs.short_head.Lts as lts
-use Rattle.elements.proofs.wide.Reads as wide-reads
 
 add-wide : tie.Need-add-wide
 add-wide c = search needs

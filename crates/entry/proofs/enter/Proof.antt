@@ -1,6 +1,5 @@
-use mathlib.Core.Path.{_≡_, refl, sym, _∙_}
+use mathlib.Core.Path.{_≡_, sym, _∙_}
 use native.Mathlib.Omega.{arith}
-use lib.ListN.{length}
 use Rattle.entry.specs.Prologue.{enters-not, enters-service, enters}
 use borrow.Author.Needs.{needs}
 use Rattle.entry.proofs.enter.Statement.{statement}

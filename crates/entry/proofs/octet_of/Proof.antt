@@ -1,4 +1,4 @@
-use mathlib.Core.Path.{_≡_, refl, sym, ap, _∙_}
+use mathlib.Core.Path.{ap}
 use lib.IntN.{natAbs}
 use Rattle.entry.proofs.Signed.{as-wider, sum-fits, sum-is, sum-octet, plain, plain-is}
 use Rattle.entry.proofs.octet_of.Statement.{statement}

@@ -7,8 +7,6 @@ use Rattle.freemap.proofs.Laws.{power-at, bit-there}
 use borrow.Author.Needs.{needs}
 use Rattle.freemap.proofs.clear_bit.Statement.{statement}
 use Rattle.freemap.proofs.clear_bit.Tie as tie
-use Rattle.freemap.proofs.clear_bit.Reads as reads
-use Rattle.freemap.proofs.clear_bit.Lts as lts
 
 -- src/lib.rt:101:12
 slice-read-t : tie.Need-slice-read-t

@@ -5,8 +5,6 @@ use lib.Count.{ones, ones-le}
 use Rattle.laws.specs.Digits.{digits, count, ones-count, count-append}
 use Rattle.freemap.proofs.count_of.Statement.{statement}
 use Rattle.freemap.proofs.count_of.Tie as tie
-use Rattle.freemap.proofs.count_of.Reads as reads
-use Rattle.freemap.proofs.count_of.Lts as lts
 
 -- src/lib.rt:63:5
 add-result : tie.Need-add-result

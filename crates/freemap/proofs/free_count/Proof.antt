@@ -5,10 +5,6 @@ use Rattle.freemap.proofs.Laws.{two-words}
 use borrow.Author.Needs.{needs}
 use Rattle.freemap.proofs.free_count.Statement.{statement}
 use Rattle.freemap.proofs.free_count.Tie as tie
-use Rattle.freemap.proofs.free_count.Reads as reads
-use Rattle.freemap.proofs.free_count.Lts as lts
-use Rattle.freemap.proofs.count_of.Reads as count-of-reads
-use Rattle.freemap.proofs.word.Reads as word-reads
 
 -- src/lib.rt:71:14
 word-requires : tie.Need-word-requires

@@ -5,10 +5,6 @@ use Rattle.freemap.proofs.Laws.{two-words}
 use borrow.Author.Needs.{needs}
 use Rattle.freemap.proofs.lowest_free.Statement.{statement}
 use Rattle.freemap.proofs.lowest_free.Tie as tie
-use Rattle.freemap.proofs.lowest_free.Reads as reads
-use Rattle.freemap.proofs.lowest_free.Lts as lts
-use Rattle.freemap.proofs.lowest_of.Reads as lowest-of-reads
-use Rattle.freemap.proofs.word.Reads as word-reads
 
 -- src/lib.rt:57:15
 word-requires : tie.Need-word-requires

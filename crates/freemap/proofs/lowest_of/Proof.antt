@@ -3,8 +3,6 @@ use lib.Count.{trailing-le}
 use Rattle.laws.specs.Digits.{lowest-two, lowest-high}
 use Rattle.freemap.proofs.lowest_of.Statement.{statement}
 use Rattle.freemap.proofs.lowest_of.Tie as tie
-use Rattle.freemap.proofs.lowest_of.Reads as reads
-use Rattle.freemap.proofs.lowest_of.Lts as lts
 
 -- src/lib.rt:47:9
 returns : tie.Need-returns

@@ -7,8 +7,6 @@ use Rattle.freemap.proofs.Laws.{power-at, bit-room}
 use borrow.Author.Needs.{needs}
 use Rattle.freemap.proofs.set_bit.Statement.{statement}
 use Rattle.freemap.proofs.set_bit.Tie as tie
-use Rattle.freemap.proofs.set_bit.Reads as reads
-use Rattle.freemap.proofs.set_bit.Lts as lts
 
 -- src/lib.rt:91:12
 slice-read-t : tie.Need-slice-read-t

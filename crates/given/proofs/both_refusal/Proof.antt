@@ -1,6 +1,6 @@
 use Rattle.given.specs.Pieces.{both-wrong, both-over, both-long, both-fit, both-room}
 use native.Mathlib.Omega.{arith}
-use mathlib.Core.Path.{_≡_, refl, sym, _∙_}
+use mathlib.Core.Path.{sym, _∙_}
 use borrow.Author.Needs.{needs}
 use Rattle.given.proofs.both_refusal.Statement.{statement}
 use Rattle.given.proofs.both_refusal.Tie as tie

@@ -1,6 +1,6 @@
 use Rattle.given.specs.Pieces.{pieces-code, pieces-parameter, pieces-over, pieces-long, pieces-fit}
 use native.Mathlib.Omega.{arith}
-use mathlib.Core.Path.{_≡_, refl, sym, _∙_}
+use mathlib.Core.Path.{sym, _∙_}
 use borrow.Author.Needs.{needs}
 use Rattle.given.proofs.pieces_refusal.Statement.{statement}
 use Rattle.given.proofs.pieces_refusal.Tie as tie

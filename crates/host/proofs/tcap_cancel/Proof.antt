@@ -5,10 +5,6 @@ use Rattle.host.proofs.Octet.{of-octet}
 use borrow.Author.Needs.{needs}
 use Rattle.host.proofs.tcap_cancel.Statement.{statement}
 use Rattle.host.proofs.tcap_cancel.Tie as tie
-use Rattle.host.proofs.tcap_cancel.Reads as reads
-use Rattle.host.proofs.tcap_cancel.Lts as lts
-use Rattle.entry.proofs.octet_of.Reads as octet-of-reads
-use Rattle.timing.proofs.cancel.Reads as cancel-reads
 
 -- src/lib.rt:151:9
 octet-of-requires : tie.Need-octet-of-requires

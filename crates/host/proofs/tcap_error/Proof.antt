@@ -5,10 +5,6 @@ use Rattle.host.proofs.Octet.{of-octet}
 use borrow.Author.Needs.{needs}
 use Rattle.host.proofs.tcap_error.Statement.{statement}
 use Rattle.host.proofs.tcap_error.Tie as tie
-use Rattle.host.proofs.tcap_error.Reads as reads
-use Rattle.host.proofs.tcap_error.Lts as lts
-use Rattle.entry.proofs.octet_of.Reads as octet-of-reads
-use Rattle.passing.proofs.error.Reads as error-reads
 
 -- src/lib.rt:129:9
 octet-of-requires : tie.Need-octet-of-requires

@@ -6,10 +6,6 @@ use Rattle.host.proofs.Octet.{of-octet}
 use borrow.Author.Needs.{needs}
 use Rattle.host.proofs.tcap_invoke.Statement.{statement}
 use Rattle.host.proofs.tcap_invoke.Tie as tie
-use Rattle.host.proofs.tcap_invoke.Reads as reads
-use Rattle.host.proofs.tcap_invoke.Lts as lts
-use Rattle.entry.proofs.octet_of.Reads as octet-of-reads
-use Rattle.passing.proofs.invoke.Reads as invoke-reads
 
 -- src/lib.rt:48:9
 octet-of-requires : tie.Need-octet-of-requires

@@ -3,9 +3,6 @@ use Rattle.paper.specs.declared.Run.{Run}
 use borrow.Author.Needs.{needs}
 use Rattle.host.proofs.tcap_parameter.Statement.{statement}
 use Rattle.host.proofs.tcap_parameter.Tie as tie
-use Rattle.host.proofs.tcap_parameter.Reads as reads
-use Rattle.host.proofs.tcap_parameter.Lts as lts
-use Rattle.parameter.proofs.parameter_at.Reads as parameter-at-reads
 
 -- src/lib.rt:45:9
 parameter-at-requires : tie.Need-parameter-at-requires

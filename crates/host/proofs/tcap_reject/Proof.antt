@@ -5,10 +5,6 @@ use Rattle.host.proofs.Octet.{of-octet}
 use borrow.Author.Needs.{needs}
 use Rattle.host.proofs.tcap_reject.Statement.{statement}
 use Rattle.host.proofs.tcap_reject.Tie as tie
-use Rattle.host.proofs.tcap_reject.Reads as reads
-use Rattle.host.proofs.tcap_reject.Lts as lts
-use Rattle.entry.proofs.octet_of.Reads as octet-of-reads
-use Rattle.passing.proofs.reject.Reads as reject-reads
 
 -- src/lib.rt:143:9
 octet-of-requires : tie.Need-octet-of-requires

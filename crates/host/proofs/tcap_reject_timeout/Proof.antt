@@ -5,10 +5,6 @@ use Rattle.host.proofs.Octet.{of-octet}
 use borrow.Author.Needs.{needs}
 use Rattle.host.proofs.tcap_reject_timeout.Statement.{statement}
 use Rattle.host.proofs.tcap_reject_timeout.Tie as tie
-use Rattle.host.proofs.tcap_reject_timeout.Reads as reads
-use Rattle.host.proofs.tcap_reject_timeout.Lts as lts
-use Rattle.entry.proofs.octet_of.Reads as octet-of-reads
-use Rattle.timing.proofs.reject_timeout.Reads as reject-timeout-reads
 
 -- src/lib.rt:254:9
 octet-of-requires : tie.Need-octet-of-requires

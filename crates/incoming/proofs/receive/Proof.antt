@@ -6,13 +6,6 @@ use Rattle.incoming.specs.Ends.{no-table, no-service, no-octets, too-man
 use borrow.Author.Needs.{needs}
 use Rattle.incoming.proofs.receive.Statement.{statement}
 use Rattle.incoming.proofs.receive.Tie as tie
-use Rattle.incoming.proofs.receive.Reads as reads
-use Rattle.incoming.proofs.receive.Lts as lts
-use Rattle.entry.proofs.done.Reads as done-reads
-use Rattle.entry.proofs.refused.Reads as refused-reads
-use Rattle.incoming.proofs.wide.Reads as wide-reads
-use Rattle.receiving.proofs.receive.Reads as receive-reads
-use Rattle.rules.proofs.check.Reads as check-reads
 
 -- src/lib.rt:27:9
 refused-requires : tie.Need-refused-requires

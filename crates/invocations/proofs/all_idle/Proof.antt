@@ -12,9 +12,6 @@ use Rattle.paper.specs.declared.Invocation.{Invocation}
 use Rattle.paper.specs.Invocations.{isOpen, isIdle, slotOf, noInvocation}
 use Rattle.invocations.proofs.all_idle.Statement.{statement}
 use Rattle.invocations.proofs.all_idle.Tie as tie
-use Rattle.invocations.proofs.all_idle.Reads as reads
-use Rattle.invocations.proofs.all_idle.Lts as lts
-use Rattle.invocations.proofs.is_idle.Reads as is-idle-reads
 
 abbrev Inv-loop : tie.InvT-loop
 Inv-loop l i₀ i = (i ≤ 8) × ((id : ℕ) → slotOf l id ≡ i + firstAt (isOpen id) (drop i l))

@@ -1,16 +1,13 @@
 use native.Mathlib.Omega.{arith}
-use mathlib.Core.Path.{_≡_, refl, sym, ap, _∙_}
+use mathlib.Core.Path.{_≡_, sym, ap, _∙_}
 use Prim.Native.Nat.{ℕ, _+_, _-_, _≤_}
 use lib.ListN.{length, drop}
 use native.Mathlib.Numerals.{add-one}
 use borrow.Author.Needs.{needs}
-use Rattle.laws.specs.Lists.{firstAt, first-hit, first-miss, first-none, first-le}
+use Rattle.laws.specs.Lists.{firstAt, first-hit, first-miss, first-none}
 use Rattle.paper.specs.Invocations.{isIdle, idleSlot, noInvocation}
 use Rattle.invocations.proofs.idle_slot.Statement.{statement}
 use Rattle.invocations.proofs.idle_slot.Tie as tie
-use Rattle.invocations.proofs.idle_slot.Reads as reads
-use Rattle.invocations.proofs.idle_slot.Lts as lts
-use Rattle.invocations.proofs.is_idle.Reads as is-idle-reads
 
 abbrev Inv-loop : tie.InvT-loop
 Inv-loop l i₀ i = (i ≤ 8) × (idleSlot l ≡ i + firstAt (isIdle) (drop i l))

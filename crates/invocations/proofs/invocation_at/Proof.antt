@@ -1,16 +1,12 @@
-use Prim.Native.Nat.{ℕ, _≤_, _<_}
-use lib.ListN.{length, getD, List·getD-eq-default}
+use Prim.Native.Nat.{_≤_}
+use lib.ListN.{length, List·getD-eq-default}
 use Rattle.paper.specs.Invocations.{noInvocation}
 use native.Mathlib.Omega.{arith}
-use mathlib.Core.Path.{_≡_, refl, sym, ap, _∙_}
-use Rattle.laws.specs.If.{lt, ge, eq, ne, yes, no}
+use mathlib.Core.Path.{sym, _∙_}
 use lib.ListN.{length, List·getD-eq-default}
 use borrow.Author.Needs.{needs}
 use Rattle.invocations.proofs.invocation_at.Statement.{statement}
 use Rattle.invocations.proofs.invocation_at.Tie as tie
-use Rattle.invocations.proofs.invocation_at.Reads as reads
-use Rattle.invocations.proofs.invocation_at.Lts as lts
-use Rattle.invocations.proofs.no_invocation.Reads as no-invocation-reads
 
 -- src/lib.rt:74:16
 mul-result : tie.Need-mul-result

@@ -5,8 +5,6 @@ use Rattle.paper.specs.Invocations.{isOpen}
 use borrow.Author.Needs.{needs}
 use Rattle.invocations.proofs.is_open.Statement.{statement}
 use Rattle.invocations.proofs.is_open.Tie as tie
-use Rattle.invocations.proofs.is_open.Reads as reads
-use Rattle.invocations.proofs.is_open.Lts as lts
 
 -- src/lib.rt:16:9
 returns : tie.Need-returns

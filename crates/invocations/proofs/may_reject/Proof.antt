@@ -1,11 +1,9 @@
 use native.Mathlib.Omega.{arith}
-use mathlib.Core.Path.{_≡_, refl, sym, ap, _∙_}
-use Rattle.laws.specs.If.{lt, ge, eq, ne, yes, no}
+use mathlib.Core.Path.{refl}
+use Rattle.laws.specs.If.{eq, ne}
 use Rattle.paper.specs.Invocations.{mayReject}
 use Rattle.invocations.proofs.may_reject.Statement.{statement}
 use Rattle.invocations.proofs.may_reject.Tie as tie
-use Rattle.invocations.proofs.may_reject.Reads as reads
-use Rattle.invocations.proofs.may_reject.Lts as lts
 
 -- src/lib.rt:435:9
 returns : tie.Need-returns

@@ -1,13 +1,7 @@
-use native.Mathlib.Omega.{arith}
-use mathlib.Core.Path.{_≡_, refl, sym, ap, _∙_}
-use Rattle.laws.specs.If.{lt, ge, eq, ne, yes, no}
 use Rattle.paper.specs.Invocations.{passed}
 use borrow.Author.Needs.{needs}
 use Rattle.invocations.proofs.pass.Statement.{statement}
 use Rattle.invocations.proofs.pass.Tie as tie
-use Rattle.invocations.proofs.pass.Reads as reads
-use Rattle.invocations.proofs.pass.Lts as lts
-use Rattle.invocations.proofs.put_invocation.Reads as put-invocation-reads
 
 -- src/lib.rt:148:5
 put-invocation-requires : tie.Need-put-invocation-requires

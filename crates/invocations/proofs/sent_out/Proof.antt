@@ -1,13 +1,7 @@
-use native.Mathlib.Omega.{arith}
-use mathlib.Core.Path.{_≡_, refl, sym, ap, _∙_}
-use Rattle.laws.specs.If.{lt, ge, eq, ne, yes, no}
 use Rattle.paper.specs.Invocations.{allTransmitted}
 use borrow.Author.Needs.{needs}
 use Rattle.invocations.proofs.sent_out.Statement.{statement}
 use Rattle.invocations.proofs.sent_out.Tie as tie
-use Rattle.invocations.proofs.sent_out.Reads as reads
-use Rattle.invocations.proofs.sent_out.Lts as lts
-use Rattle.invocations.proofs.transmit_all.Reads as transmit-all-reads
 
 -- src/lib.rt:484:9
 transmit-all-requires : tie.Need-transmit-all-requires

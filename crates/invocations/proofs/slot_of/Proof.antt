@@ -1,17 +1,13 @@
 use native.Mathlib.Omega.{arith}
-use mathlib.Core.Path.{_≡_, refl, sym, ap, _∙_}
+use mathlib.Core.Path.{_≡_, sym, ap, _∙_}
 use Prim.Native.Nat.{ℕ, _+_, _-_, _≤_}
 use lib.ListN.{length, drop}
 use native.Mathlib.Numerals.{add-one}
 use borrow.Author.Needs.{needs}
-use Rattle.laws.specs.Lists.{firstAt, first-hit, first-miss, first-none, first-le}
+use Rattle.laws.specs.Lists.{firstAt, first-hit, first-miss, first-none}
 use Rattle.paper.specs.Invocations.{isOpen, slotOf, noInvocation}
 use Rattle.invocations.proofs.slot_of.Statement.{statement}
 use Rattle.invocations.proofs.slot_of.Tie as tie
-use Rattle.invocations.proofs.slot_of.Reads as reads
-use Rattle.invocations.proofs.slot_of.Lts as lts
-use Rattle.invocations.proofs.all_idle.Reads as all-idle-reads
-use Rattle.invocations.proofs.is_open.Reads as is-open-reads
 
 abbrev Inv-loop : tie.InvT-loop
 Inv-loop id l i₀ i = (i ≤ 8) × (slotOf l id ≡ i + firstAt (isOpen id) (drop i l))

@@ -1,15 +1,12 @@
 use native.Mathlib.Omega.{arith}
-use mathlib.Core.Path.{_≡_, refl, sym, ap, _∙_}
-use Rattle.laws.specs.If.{lt, ge, eq, ne, yes, no}
-use lib.ListN.{length, getD, List·getD-eq-default}
-use Prim.Native.Nat.{ℕ, _≤_, _<_}
+use mathlib.Core.Path.{sym, ap}
+use lib.ListN.{length, List·getD-eq-default}
+use Prim.Native.Nat.{_≤_}
 use Rattle.paper.specs.Invocations.{noInvocation}
 use Rattle.paper.specs.declared.Invocation.{Invocation}
 use borrow.Author.Needs.{needs}
 use Rattle.invocations.proofs.state_at.Statement.{statement}
 use Rattle.invocations.proofs.state_at.Tie as tie
-use Rattle.invocations.proofs.state_at.Reads as reads
-use Rattle.invocations.proofs.state_at.Lts as lts
 
 -- src/lib.rt:86:17
 mul-v : tie.Need-mul-v

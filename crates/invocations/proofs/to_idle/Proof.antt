@@ -1,14 +1,7 @@
-use native.Mathlib.Omega.{arith}
-use mathlib.Core.Path.{_≡_, refl, sym, ap, _∙_}
-use Rattle.laws.specs.If.{lt, ge, eq, ne, yes, no}
 use Rattle.paper.specs.Invocations.{toIdle}
 use borrow.Author.Needs.{needs}
 use Rattle.invocations.proofs.to_idle.Statement.{statement}
 use Rattle.invocations.proofs.to_idle.Tie as tie
-use Rattle.invocations.proofs.to_idle.Reads as reads
-use Rattle.invocations.proofs.to_idle.Lts as lts
-use Rattle.invocations.proofs.no_invocation.Reads as no-invocation-reads
-use Rattle.invocations.proofs.put_invocation.Reads as put-invocation-reads
 
 -- src/lib.rt:101:9
 no-invocation-requires : tie.Need-no-invocation-requires

@@ -1,13 +1,7 @@
-use native.Mathlib.Omega.{arith}
-use mathlib.Core.Path.{_≡_, refl, sym, ap, _∙_}
-use Rattle.laws.specs.If.{lt, ge, eq, ne, yes, no}
 use Rattle.paper.specs.Invocations.{toState, invocationOf}
 use borrow.Author.Needs.{needs}
 use Rattle.invocations.proofs.to_state.Statement.{statement}
 use Rattle.invocations.proofs.to_state.Tie as tie
-use Rattle.invocations.proofs.to_state.Reads as reads
-use Rattle.invocations.proofs.to_state.Lts as lts
-use Rattle.invocations.proofs.put_invocation.Reads as put-invocation-reads
 
 -- src/lib.rt:111:13
 mul-v : tie.Need-mul-v

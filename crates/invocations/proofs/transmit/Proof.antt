@@ -1,13 +1,10 @@
 use native.Mathlib.Omega.{arith}
-use mathlib.Core.Path.{_≡_, refl, sym, ap, _∙_}
-use Rattle.laws.specs.If.{lt, ge, eq, ne, yes, no}
+use mathlib.Core.Path.{refl}
+use Rattle.laws.specs.If.{eq, ne}
 use Rattle.paper.specs.Invocations.{transmitted}
 use borrow.Author.Needs.{needs}
 use Rattle.invocations.proofs.transmit.Statement.{statement}
 use Rattle.invocations.proofs.transmit.Tie as tie
-use Rattle.invocations.proofs.transmit.Reads as reads
-use Rattle.invocations.proofs.transmit.Lts as lts
-use Rattle.invocations.proofs.no_invocation.Reads as no-invocation-reads
 
 -- src/lib.rt:454:9
 returns : tie.Need-returns

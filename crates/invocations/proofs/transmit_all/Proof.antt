@@ -3,16 +3,13 @@ use native.Mathlib.Numerals.{add-one}
 use mathlib.Core.Path.{_≡_, refl, sym, ap, _∙_}
 use mathlib.Core.List.{List, _++_, map}
 use Prim.Native.Nat.{ℕ, suc, _+_, _-_, _≤_}
-use lib.ListN.{length, take, drop, set, getD}
+use lib.ListN.{length, take, drop, set}
 use borrow.Author.Needs.{needs}
 use Rattle.laws.specs.Lists.{mapped-more, mapped-all}
 use Rattle.paper.specs.declared.Invocation.{Invocation}
 use Rattle.paper.specs.Invocations.{transmitted, noInvocation}
 use Rattle.invocations.proofs.transmit_all.Statement.{statement}
 use Rattle.invocations.proofs.transmit_all.Tie as tie
-use Rattle.invocations.proofs.transmit_all.Reads as reads
-use Rattle.invocations.proofs.transmit_all.Lts as lts
-use Rattle.invocations.proofs.transmit.Reads as transmit-reads
 
 abbrev Inv-loop : tie.InvT-loop
 Inv-loop l m₀ i₀ m i = (i ≤ 8) × (m ≡ take i (map transmitted l) ++ drop i l)

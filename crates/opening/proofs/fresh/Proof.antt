@@ -1,5 +1,5 @@
 use Rattle.opening.specs.Fresh.{fresh-sizes, fresh-refused, fresh-done}
-use mathlib.Core.Path.{_≡_, refl, sym, ap, _∙_}
+use mathlib.Core.Path.{sym, _∙_}
 use native.Mathlib.Omega.{arith}
 use borrow.Author.Needs.{needs}
 use Rattle.opening.proofs.fresh.Statement.{statement}

@@ -1,6 +1,5 @@
 use Rattle.opening.specs.Fresh.{fresh-size, fresh-guarantees, fresh-limits, fresh-unfit, fresh-fit}
-use mathlib.Core.Path.{_≡_, refl, sym, ap, _∙_}
-use native.Mathlib.Omega.{arith}
+use mathlib.Core.Path.{sym, _∙_}
 use borrow.Author.Needs.{needs}
 use Rattle.opening.proofs.fresh_answer.Statement.{statement}
 use Rattle.opening.proofs.fresh_answer.Tie as tie

@@ -2,8 +2,7 @@ use lib.ListN.{length}
 use Rattle.opening.specs.Fresh.{fresh-octets}
 use lib.ListN.{replicate}
 use Prim.Native.Nat.{ℕ}
-use mathlib.Core.Path.{_≡_, refl, sym, ap, _∙_}
-use native.Mathlib.Omega.{arith}
+use mathlib.Core.Path.{_≡_, ap, _∙_}
 use borrow.Author.Needs.{needs}
 use Rattle.opening.proofs.lay_out.Statement.{statement}
 use Rattle.opening.proofs.lay_out.Tie as tie

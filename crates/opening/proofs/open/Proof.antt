@@ -5,10 +5,8 @@ use Rattle.opening.specs.Opened.{open-no, open-there, open-storing, open
 use Rattle.entry.specs.Ends.{open-refused}
 use Rattle.places.specs.Storing.{Storing}
 use Rattle.paper.specs.declared.Control.{Control}
-use lib.ListN.{replicate}
-use Prim.Native.Nat.{ℕ}
 use mathlib.Core.List.{[]}
-use mathlib.Core.Path.{_≡_, refl, sym, ap, subst, _∙_}
+use mathlib.Core.Path.{refl, sym, ap, subst, _∙_}
 use native.Mathlib.Omega.{arith}
 use borrow.Author.Needs.{needs}
 use Rattle.opening.proofs.open.Statement.{statement}

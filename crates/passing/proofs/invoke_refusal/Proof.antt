@@ -1,10 +1,9 @@
-use Rattle.passing.specs.Refusing.{frontOf, front-small, class-low, class-high, not-idle, eight-open, invoke-pieces}
+use Rattle.passing.specs.Refusing.{front-small, class-low, class-high, not-idle, eight-open, invoke-pieces}
 use Rattle.given.specs.Pieces.{piecesRefusal}
 use Rattle.paper.specs.Invocations.{stateOf, idleSlot}
 use Rattle.paper.specs.declared.Control.{Control}
 use Prim.Native.Nat.{ℕ, _≤_}
-use mathlib.Core.Path.{_≡_, sym, ap, subst, _∙_}
-use native.Mathlib.Omega.{arith}
+use mathlib.Core.Path.{sym, ap, subst, _∙_}
 use borrow.Author.Needs.{needs}
 use Rattle.passing.proofs.invoke_refusal.Statement.{statement}
 use Rattle.passing.proofs.invoke_refusal.Tie as tie

@@ -3,7 +3,7 @@ use Rattle.paper.specs.Dialogues.{rejectedBy}
 use Rattle.paper.specs.Invocations.{slotOf, invocationOf}
 use Rattle.paper.specs.Problems.{kindOf, codeOf}
 use Rattle.paper.specs.declared.Control.{Control}
-use Prim.Native.Nat.{ℕ, _<_}
+use Prim.Native.Nat.{_<_}
 use Rattle.passing.specs.Appending.{pass-done}
 use Rattle.entry.specs.Ends.{dialogue-refused, dialogue-no}
 use Rattle.entry.specs.Replies.{only}
@@ -12,7 +12,7 @@ use Rattle.paper.specs.Layout.{view}
 use Rattle.paper.specs.Calls.{placeAt}
 use Rattle.paper.specs.Dialogues.Request.{UserReject}
 use Rattle.paper.specs.Dialogues.{refusal, does}
-use mathlib.Core.Path.{_≡_, refl, sym, ap, subst, _∙_}
+use mathlib.Core.Path.{refl, sym, ap, subst, _∙_}
 use native.Mathlib.Omega.{arith}
 use borrow.Author.Needs.{needs}
 use Rattle.passing.proofs.reject.Statement.{statement}

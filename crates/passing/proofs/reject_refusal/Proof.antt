@@ -2,9 +2,7 @@ use Rattle.passing.specs.Refusing.{reject-open, not-users, may-not, reje
 use Rattle.paper.specs.Invocations.{invocationOf, mayReject}
 use Rattle.paper.specs.Problems.{kindOf}
 use Rattle.paper.specs.declared.Control.{Control}
-use Rattle.paper.specs.declared.Invocation.{Invocation}
-use mathlib.Core.Path.{_≡_, sym, ap, _∙_}
-use native.Mathlib.Omega.{arith}
+use mathlib.Core.Path.{sym, ap, _∙_}
 use borrow.Author.Needs.{needs}
 use Rattle.passing.proofs.reject_refusal.Statement.{statement}
 use Rattle.passing.proofs.reject_refusal.Tie as tie

@@ -1,8 +1,7 @@
 use Rattle.paper.specs.Dialogues.{rejectedBy}
 use Rattle.laws.specs.If.{eq, ne}
 use Prim.Native.Nat.{ℕ, _<_}
-use mathlib.Core.Path.{_≡_, refl, sym, subst, _∙_}
-use native.Mathlib.Omega.{arith}
+use mathlib.Core.Path.{refl, sym, subst}
 use borrow.Author.Needs.{needs}
 use Rattle.passing.proofs.rejected_by.Statement.{statement}
 use Rattle.passing.proofs.rejected_by.Tie as tie

@@ -7,7 +7,7 @@ use Rattle.paper.specs.Layout.{view}
 use Rattle.paper.specs.Calls.{placeAt}
 use Rattle.paper.specs.Dialogues.Request.{Result}
 use Rattle.paper.specs.Dialogues.{refusal, does}
-use mathlib.Core.Path.{_≡_, refl, sym, ap, subst, _∙_}
+use mathlib.Core.Path.{refl, sym, subst, _∙_}
 use native.Mathlib.Omega.{arith}
 use borrow.Author.Needs.{needs}
 use Rattle.passing.proofs.result.Statement.{statement}

@@ -8,10 +8,6 @@ use Rattle.places.proofs.Changes.{begin-bit, place-begun}
 use borrow.Author.Needs.{needs}
 use Rattle.places.proofs.begin_at.Statement.{statement}
 use Rattle.places.proofs.begin_at.Tie as tie
-use Rattle.places.proofs.begin_at.Reads as reads
-use Rattle.places.proofs.begin_at.Lts as lts
-use Rattle.freemap.proofs.clear_bit.Reads as clear-bit-reads
-use Rattle.places.proofs.put_control.Reads as put-control-reads
 
 -- src/lib.rt:394:5
 put-control-requires : tie.Need-put-control-requires

@@ -10,12 +10,6 @@ use Rattle.places.proofs.Changes.{blanked}
 use borrow.Author.Needs.{needs}
 use Rattle.places.proofs.blank.Statement.{statement}
 use Rattle.places.proofs.blank.Tie as tie
-use Rattle.places.proofs.blank.Reads as reads
-use Rattle.places.proofs.blank.Lts as lts
-use Rattle.places.proofs.clear.Reads as clear-reads
-use Rattle.places.proofs.low.Reads as low-reads
-use Rattle.places.proofs.next_turn.Reads as next-turn-reads
-use Rattle.places.proofs.turn_of.Reads as turn-of-reads
 
 -- src/lib.rt:348:34
 slice-read-turn-of : tie.Need-slice-read-turn-of

@@ -8,8 +8,6 @@ use lib.ListN.{length, replicate, drop, set, length-set}
 use lib.Seq.{drop-length}
 use Rattle.places.proofs.clear.Statement.{statement}
 use Rattle.places.proofs.clear.Tie as tie
-use Rattle.places.proofs.clear.Reads as reads
-use Rattle.places.proofs.clear.Lts as lts
 
 abbrev Inv-loop : tie.InvT-loop
 Inv-loop s₀ i₀ s i = (i ≤ length s₀) × (length s ≡ length s₀) × (s ≡ replicate i 0 ++ drop i s₀)

@@ -1,12 +1,6 @@
 use borrow.Author.Needs.{needs}
 use Rattle.places.proofs.control_of.Statement.{statement}
 use Rattle.places.proofs.control_of.Tie as tie
-use Rattle.places.proofs.control_of.Reads as reads
-use Rattle.places.proofs.control_of.Lts as lts
-use Rattle.places.proofs.invocations_of.Reads as invocations-of-reads
-use Rattle.places.proofs.peer_of.Reads as peer-of-reads
-use Rattle.places.proofs.rejects_of.Reads as rejects-of-reads
-use Rattle.places.proofs.turn_of.Reads as turn-of-reads
 
 -- src/lib.rt:123:24
 shared-slice-read-turn-of : tie.Need-shared-slice-read-turn-of

@@ -4,10 +4,6 @@ use Rattle.places.proofs.Changes.{free-bit, place-freed}
 use borrow.Author.Needs.{needs}
 use Rattle.places.proofs.free_at.Statement.{statement}
 use Rattle.places.proofs.free_at.Tie as tie
-use Rattle.places.proofs.free_at.Reads as reads
-use Rattle.places.proofs.free_at.Lts as lts
-use Rattle.freemap.proofs.set_bit.Reads as set-bit-reads
-use Rattle.places.proofs.blank.Reads as blank-reads
 
 -- src/lib.rt:403:18
 mul-a : tie.Need-mul-a

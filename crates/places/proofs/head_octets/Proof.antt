@@ -1,9 +1,6 @@
 use borrow.Author.Needs.{needs}
 use Rattle.places.proofs.head_octets.Statement.{statement}
 use Rattle.places.proofs.head_octets.Tie as tie
-use Rattle.places.proofs.head_octets.Reads as reads
-use Rattle.places.proofs.head_octets.Lts as lts
-use Rattle.places.proofs.low.Reads as low-reads
 
 -- src/lib.rt:256:9
 low-requires : tie.Need-low-requires

@@ -1,9 +1,6 @@
 use borrow.Author.Needs.{needs}
 use Rattle.places.proofs.invocations_of.Statement.{statement}
 use Rattle.places.proofs.invocations_of.Tie as tie
-use Rattle.places.proofs.invocations_of.Reads as reads
-use Rattle.places.proofs.invocations_of.Lts as lts
-use Rattle.places.proofs.invocation_at.Reads as invocation-at-reads
 
 -- src/lib.rt:74:9
 invocation-at-requires : tie.Need-invocation-at-requires

@@ -3,10 +3,6 @@ use Rattle.places.proofs.Laws.{dialogue-none, dialogue-other, dialogue-
 use borrow.Author.Needs.{needs}
 use Rattle.places.proofs.is_dialogue.Statement.{statement}
 use Rattle.places.proofs.is_dialogue.Tie as tie
-use Rattle.places.proofs.is_dialogue.Reads as reads
-use Rattle.places.proofs.is_dialogue.Lts as lts
-use Rattle.places.proofs.number.Reads as number-reads
-use Rattle.places.proofs.turn_of.Reads as turn-of-reads
 
 -- src/lib.rt:183:8
 shared-slice-read-if1 : tie.Need-shared-slice-read-if1

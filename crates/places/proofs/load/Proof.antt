@@ -2,9 +2,6 @@ use Rattle.places.proofs.Laws.{control-is}
 use borrow.Author.Needs.{needs}
 use Rattle.places.proofs.load.Statement.{statement}
 use Rattle.places.proofs.load.Tie as tie
-use Rattle.places.proofs.load.Reads as reads
-use Rattle.places.proofs.load.Lts as lts
-use Rattle.places.proofs.control_of.Reads as control-of-reads
 
 -- src/lib.rt:144:18
 mul-a : tie.Need-mul-a

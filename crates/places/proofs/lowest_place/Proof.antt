@@ -3,9 +3,6 @@ use Rattle.facts.specs.Counts.{ready-lowest}
 use borrow.Author.Needs.{needs}
 use Rattle.places.proofs.lowest_place.Statement.{statement}
 use Rattle.places.proofs.lowest_place.Tie as tie
-use Rattle.places.proofs.lowest_place.Reads as reads
-use Rattle.places.proofs.lowest_place.Lts as lts
-use Rattle.freemap.proofs.lowest_free.Reads as lowest-free-reads
 
 -- src/lib.rt:211:5
 lowest-free-requires : tie.Need-lowest-free-requires

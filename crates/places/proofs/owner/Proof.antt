@@ -6,9 +6,6 @@ use Rattle.places.proofs.Laws.{owner-is}
 use borrow.Author.Needs.{needs}
 use Rattle.places.proofs.owner.Statement.{statement}
 use Rattle.places.proofs.owner.Tie as tie
-use Rattle.places.proofs.owner.Reads as reads
-use Rattle.places.proofs.owner.Lts as lts
-use Rattle.places.proofs.is_dialogue.Reads as is-dialogue-reads
 
 -- src/lib.rt:197:13
 cast-p : tie.Need-cast-p

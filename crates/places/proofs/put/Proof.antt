@@ -7,8 +7,6 @@ use lib.Seq.{sets, take-length}
 use Rattle.laws.specs.Runs.{copied-more}
 use Rattle.places.proofs.put.Statement.{statement}
 use Rattle.places.proofs.put.Tie as tie
-use Rattle.places.proofs.put.Reads as reads
-use Rattle.places.proofs.put.Lts as lts
 
 abbrev Inv-loop : tie.InvT-loop
 Inv-loop t₀ at octets i₀ t i = (i ≤ length octets) × (length t ≡ length t₀) × (t ≡ sets t₀ at (take i octets))

@@ -7,12 +7,6 @@ use Rattle.places.proofs.Writing.{control-put}
 use borrow.Author.Needs.{needs}
 use Rattle.places.proofs.put_control.Statement.{statement}
 use Rattle.places.proofs.put_control.Tie as tie
-use Rattle.places.proofs.put_control.Reads as reads
-use Rattle.places.proofs.put_control.Lts as lts
-use Rattle.places.proofs.head_octets.Reads as head-octets-reads
-use Rattle.places.proofs.put.Reads as put-reads
-use Rattle.places.proofs.put_invocations.Reads as put-invocations-reads
-use Rattle.places.proofs.put_rejects.Reads as put-rejects-reads
 
 -- src/lib.rt:321:18
 mul-a : tie.Need-mul-a

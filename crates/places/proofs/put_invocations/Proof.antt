@@ -1,4 +1,4 @@
-use Prim.Native.Nat.{ℕ, _+_, _-_, _≤_}
+use Prim.Native.Nat.{_-_, _≤_}
 use mathlib.Core.Path.{_≡_, refl}
 use native.Mathlib.Omega.{arith}
 use borrow.Author.Needs.{needs}
@@ -9,10 +9,6 @@ use Rattle.places.specs.Made.{pairs, invocationID, invocationMark}
 use Rattle.places.proofs.Writing.{pairs-more, pairs-all}
 use Rattle.places.proofs.put_invocations.Statement.{statement}
 use Rattle.places.proofs.put_invocations.Tie as tie
-use Rattle.places.proofs.put_invocations.Reads as reads
-use Rattle.places.proofs.put_invocations.Lts as lts
-use Rattle.places.proofs.invocation_mark.Reads as invocation-mark-reads
-use Rattle.places.proofs.put_pair.Reads as put-pair-reads
 
 abbrev Inv-loop : tie.InvT-loop
 Inv-loop t₀ at l i₀ t i = (i ≤ 8) × (length t ≡ length t₀) × (t ≡ sets t₀ at (pairs invocationID invocationMark (take i l)))

@@ -6,8 +6,6 @@ use lib.ListN.{set, length-set}
 use borrow.Author.Needs.{needs}
 use Rattle.places.proofs.put_pair.Statement.{statement}
 use Rattle.places.proofs.put_pair.Tie as tie
-use Rattle.places.proofs.put_pair.Reads as reads
-use Rattle.places.proofs.put_pair.Lts as lts
 
 -- src/lib.rt:276:5
 slice-write-t : tie.Need-slice-write-t

@@ -1,4 +1,4 @@
-use Prim.Native.Nat.{ℕ, _+_, _-_, _≤_}
+use Prim.Native.Nat.{_-_, _≤_}
 use mathlib.Core.Path.{_≡_, refl}
 use native.Mathlib.Omega.{arith}
 use borrow.Author.Needs.{needs}
@@ -9,11 +9,6 @@ use Rattle.places.specs.Made.{pairs, rejectID, rejectMark}
 use Rattle.places.proofs.Writing.{pairs-more, pairs-all}
 use Rattle.places.proofs.put_rejects.Statement.{statement}
 use Rattle.places.proofs.put_rejects.Tie as tie
-use Rattle.places.proofs.put_rejects.Reads as reads
-use Rattle.places.proofs.put_rejects.Lts as lts
-use Rattle.places.proofs.low.Reads as low-reads
-use Rattle.places.proofs.put_pair.Reads as put-pair-reads
-use Rattle.places.proofs.reject_mark.Reads as reject-mark-reads
 
 abbrev Inv-loop : tie.InvT-loop
 Inv-loop t₀ at l i₀ t i = (i ≤ 8) × (length t ≡ length t₀) × (t ≡ sets t₀ at (pairs rejectID rejectMark (take i l)))

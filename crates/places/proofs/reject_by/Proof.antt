@@ -1,9 +1,6 @@
 use borrow.Author.Needs.{needs}
 use Rattle.places.proofs.reject_by.Statement.{statement}
 use Rattle.places.proofs.reject_by.Tie as tie
-use Rattle.places.proofs.reject_by.Reads as reads
-use Rattle.places.proofs.reject_by.Lts as lts
-use Rattle.places.proofs.number.Reads as number-reads
 
 -- src/lib.rt:88:9
 number-requires : tie.Need-number-requires

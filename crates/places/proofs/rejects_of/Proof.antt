@@ -1,9 +1,6 @@
 use borrow.Author.Needs.{needs}
 use Rattle.places.proofs.rejects_of.Statement.{statement}
 use Rattle.places.proofs.rejects_of.Tie as tie
-use Rattle.places.proofs.rejects_of.Reads as reads
-use Rattle.places.proofs.rejects_of.Lts as lts
-use Rattle.places.proofs.reject_at.Reads as reject-at-reads
 
 -- src/lib.rt:108:9
 reject-at-requires : tie.Need-reject-at-requires

@@ -4,10 +4,6 @@ use Rattle.places.proofs.Changes.{octets-sent}
 use borrow.Author.Needs.{needs}
 use Rattle.places.proofs.sent_at.Statement.{statement}
 use Rattle.places.proofs.sent_at.Tie as tie
-use Rattle.places.proofs.sent_at.Reads as reads
-use Rattle.places.proofs.sent_at.Lts as lts
-use Rattle.places.proofs.clear.Reads as clear-reads
-use Rattle.places.proofs.put_control.Reads as put-control-reads
 
 -- src/lib.rt:383:18
 mul-a : tie.Need-mul-a

@@ -2,8 +2,6 @@ use Rattle.places.proofs.Laws.{state-is}
 use borrow.Author.Needs.{needs}
 use Rattle.places.proofs.state_at.Statement.{statement}
 use Rattle.places.proofs.state_at.Tie as tie
-use Rattle.places.proofs.state_at.Reads as reads
-use Rattle.places.proofs.state_at.Lts as lts
 
 -- src/lib.rt:163:18
 mul-a : tie.Need-mul-a

@@ -4,9 +4,6 @@ use Rattle.places.proofs.Changes.{control-stored}
 use borrow.Author.Needs.{needs}
 use Rattle.places.proofs.store_control.Statement.{statement}
 use Rattle.places.proofs.store_control.Tie as tie
-use Rattle.places.proofs.store_control.Reads as reads
-use Rattle.places.proofs.store_control.Lts as lts
-use Rattle.places.proofs.put_control.Reads as put-control-reads
 
 -- src/lib.rt:361:18
 mul-a : tie.Need-mul-a

@@ -2,9 +2,6 @@ use Rattle.places.proofs.Laws.{turn-is}
 use borrow.Author.Needs.{needs}
 use Rattle.places.proofs.turn_at.Statement.{statement}
 use Rattle.places.proofs.turn_at.Tie as tie
-use Rattle.places.proofs.turn_at.Reads as reads
-use Rattle.places.proofs.turn_at.Lts as lts
-use Rattle.places.proofs.turn_of.Reads as turn-of-reads
 
 -- src/lib.rt:154:18
 mul-a : tie.Need-mul-a

@@ -2,9 +2,6 @@ use Rattle.places.proofs.Laws.{waiting-is}
 use borrow.Author.Needs.{needs}
 use Rattle.places.proofs.waiting.Statement.{statement}
 use Rattle.places.proofs.waiting.Tie as tie
-use Rattle.places.proofs.waiting.Reads as reads
-use Rattle.places.proofs.waiting.Lts as lts
-use Rattle.places.proofs.waiting_length.Reads as waiting-length-reads
 
 -- src/lib.rt:172:9
 waiting-length-requires : tie.Need-waiting-length-requires

@@ -4,9 +4,6 @@ use Rattle.places.proofs.Laws.{waits-is}
 use borrow.Author.Needs.{needs}
 use Rattle.places.proofs.waiting_length.Statement.{statement}
 use Rattle.places.proofs.waiting_length.Tie as tie
-use Rattle.places.proofs.waiting_length.Reads as reads
-use Rattle.places.proofs.waiting_length.Lts as lts
-use Rattle.places.proofs.wide.Reads as wide-reads
 
 -- src/lib.rt:163:18
 mul-a : tie.Need-mul-a

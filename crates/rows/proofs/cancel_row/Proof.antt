@@ -1,12 +1,6 @@
-use native.Mathlib.Omega.{arith}
-use mathlib.Core.Path.{_≡_, refl, sym, ap, _∙_}
-use Rattle.laws.specs.If.{lt, ge, eq, ne, yes, no}
 use borrow.Author.Needs.{needs}
 use Rattle.rows.proofs.cancel_row.Statement.{statement}
 use Rattle.rows.proofs.cancel_row.Tie as tie
-use Rattle.rows.proofs.cancel_row.Reads as reads
-use Rattle.rows.proofs.cancel_row.Lts as lts
-use Rattle.rows.proofs.signed.Reads as signed-reads
 
 -- src/lib.rt:86:9
 signed-requires : tie.Need-signed-requires

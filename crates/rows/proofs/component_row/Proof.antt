@@ -1,15 +1,7 @@
-use native.Mathlib.Omega.{arith}
-use mathlib.Core.Path.{_≡_, refl, sym, ap, _∙_}
-use Rattle.laws.specs.If.{lt, ge, eq, ne, yes, no}
 use Rattle.paper.specs.Rows.{componentRow}
 use borrow.Author.Needs.{needs}
 use Rattle.rows.proofs.component_row.Statement.{statement}
 use Rattle.rows.proofs.component_row.Tie as tie
-use Rattle.rows.proofs.component_row.Reads as reads
-use Rattle.rows.proofs.component_row.Lts as lts
-use Rattle.rows.proofs.extent_of.Reads as extent-of-reads
-use Rattle.rows.proofs.signed.Reads as signed-reads
-use Rattle.rows.proofs.start_of.Reads as start-of-reads
 
 -- src/lib.rt:49:9
 signed-requires : tie.Need-signed-requires

@@ -3,8 +3,6 @@ use Rattle.laws.specs.Picks.{picks}
 use borrow.Author.Needs.{needs}
 use Rattle.rows.proofs.extent_of.Statement.{statement}
 use Rattle.rows.proofs.extent_of.Tie as tie
-use Rattle.rows.proofs.extent_of.Reads as reads
-use Rattle.rows.proofs.extent_of.Lts as lts
 
 -- src/lib.rt:39:17
 sub-result : tie.Need-sub-result

@@ -3,8 +3,6 @@ use Rattle.laws.specs.Picks.{picks}
 use borrow.Author.Needs.{needs}
 use Rattle.rows.proofs.signed.Statement.{statement}
 use Rattle.rows.proofs.signed.Tie as tie
-use Rattle.rows.proofs.signed.Reads as reads
-use Rattle.rows.proofs.signed.Lts as lts
 
 -- src/lib.rt:15:16
 add-result : tie.Need-add-result

@@ -3,8 +3,6 @@ use Rattle.laws.specs.Picks.{picks}
 use borrow.Author.Needs.{needs}
 use Rattle.rows.proofs.start_of.Statement.{statement}
 use Rattle.rows.proofs.start_of.Tie as tie
-use Rattle.rows.proofs.start_of.Reads as reads
-use Rattle.rows.proofs.start_of.Lts as lts
 
 -- src/lib.rt:29:16
 cast-result : tie.Need-cast-result

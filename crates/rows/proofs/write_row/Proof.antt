@@ -1,14 +1,8 @@
-use native.Mathlib.Omega.{arith}
-use mathlib.Core.Path.{_≡_, refl, sym, ap, _∙_}
-use Rattle.laws.specs.If.{lt, ge, eq, ne, yes, no}
+use mathlib.Core.Path.{ap, _∙_}
 use lib.Seq.{sets}
 use borrow.Author.Needs.{needs}
 use Rattle.rows.proofs.write_row.Statement.{statement}
 use Rattle.rows.proofs.write_row.Tie as tie
-use Rattle.rows.proofs.write_row.Reads as reads
-use Rattle.rows.proofs.write_row.Lts as lts
-use Rattle.rows.proofs.octets.Reads as octets-reads
-use Rattle.writing.proofs.copy_at.Reads as copy-at-reads
 
 -- src/lib.rt:154:13
 octets-requires : tie.Need-octets-requires

@@ -1,11 +1,9 @@
 use native.Mathlib.Omega.{arith}
-use mathlib.Core.Path.{_≡_, refl, sym, ap, _∙_}
-use Rattle.laws.specs.If.{lt, ge, eq, ne, yes, no}
+use mathlib.Core.Path.{refl}
+use Rattle.laws.specs.If.{eq, ne}
 use Rattle.paper.specs.Components.{nextStart}
 use Rattle.shows.proofs.next_start.Statement.{statement}
 use Rattle.shows.proofs.next_start.Tie as tie
-use Rattle.shows.proofs.next_start.Reads as reads
-use Rattle.shows.proofs.next_start.Lts as lts
 
 -- src/lib.rt:29:9
 returns : tie.Need-returns

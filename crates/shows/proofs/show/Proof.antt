@@ -5,12 +5,6 @@ use borrow.Author.Needs.{needs}
 use Rattle.shows.proofs.Loop.{Rest, rest-start, rest-more, rest-end}
 use Rattle.shows.proofs.show.Statement.{statement}
 use Rattle.shows.proofs.show.Tie as tie
-use Rattle.shows.proofs.show.Reads as reads
-use Rattle.shows.proofs.show.Lts as lts
-use Rattle.acts.proofs.changed.Reads as changed-reads
-use Rattle.acts.proofs.is_change.Reads as is-change-reads
-use Rattle.rows.proofs.write_row.Reads as write-row-reads
-use Rattle.shows.proofs.step.Reads as step-reads
 
 abbrev Inv-loop : tie.InvT-loop
 Inv-loop s from lim room rows₀ me c₀ at₀ k₀ rows c at k = Rest me room s lim from c₀ rows₀ rows c at k

@@ -3,12 +3,6 @@ use Rattle.shows.proofs.Loop.{next-in, step-told}
 use borrow.Author.Needs.{needs}
 use Rattle.shows.proofs.step.Statement.{statement}
 use Rattle.shows.proofs.step.Tie as tie
-use Rattle.shows.proofs.step.Reads as reads
-use Rattle.shows.proofs.step.Lts as lts
-use Rattle.acts.proofs.act.Reads as act-reads
-use Rattle.components.proofs.component_at.Reads as component-at-reads
-use Rattle.rows.proofs.component_row.Reads as component-row-reads
-use Rattle.shows.proofs.next_start.Reads as next-start-reads
 
 component-at-requires : tie.Need-component-at-requires
 component-at-requires c κs = search needs

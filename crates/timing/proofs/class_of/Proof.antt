@@ -1,7 +1,7 @@
 use Rattle.paper.specs.Invocations.{invocationOf}
 use Rattle.paper.specs.declared.Control.{Control}
 use Rattle.paper.specs.declared.Invocation.{Invocation}
-use mathlib.Core.Path.{_≡_, ap, _∙_}
+use mathlib.Core.Path.{ap, _∙_}
 use borrow.Author.Needs.{needs}
 use Rattle.timing.proofs.class_of.Statement.{statement}
 use Rattle.timing.proofs.class_of.Tie as tie

@@ -5,7 +5,7 @@ use Rattle.paper.specs.Calls.{placeAt}
 use Rattle.paper.specs.Dialogues.Request.{Prearranged}
 use Rattle.paper.specs.Dialogues.{freed, refusal, does}
 use native.Mathlib.Omega.{arith}
-use mathlib.Core.Path.{_≡_, refl, sym, _∙_}
+use mathlib.Core.Path.{refl}
 use borrow.Author.Needs.{needs}
 use Rattle.timing.proofs.end_prearranged.Statement.{statement}
 use Rattle.timing.proofs.end_prearranged.Tie as tie

@@ -1,7 +1,6 @@
 use Rattle.timing.specs.Idling.{not-idled, idled, storing-idle}
 use Prim.Native.Nat.{_<_}
 use native.Mathlib.Omega.{arith}
-use mathlib.Core.Path.{_≡_, refl, sym, _∙_}
 use borrow.Author.Needs.{needs}
 use Rattle.timing.proofs.idle_from.Statement.{statement}
 use Rattle.timing.proofs.idle_from.Tie as tie

@@ -11,10 +11,9 @@ use Rattle.paper.specs.declared.Row.{Row}
 use Rattle.paper.specs.declared.Control.{Control}
 use Rattle.laws.specs.If.{eq, ne}
 use lib.Seq.{sets}
-use Prim.Native.Nat.{ℕ}
 use native.Mathlib.Omega.{arith}
-use mathlib.Core.List.{List, [], _∷_}
-use mathlib.Core.Path.{_≡_, refl, sym, ap, _∙_}
+use mathlib.Core.List.{[], _∷_}
+use mathlib.Core.Path.{refl, sym, ap, _∙_}
 use borrow.Author.Needs.{needs}
 use Rattle.timing.proofs.no_reaction.Statement.{statement}
 use Rattle.timing.proofs.no_reaction.Tie as tie

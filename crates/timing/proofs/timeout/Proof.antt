@@ -1,7 +1,6 @@
 use Rattle.timing.specs.Idling.{no-cancel-row, cancel-rows}
 use Rattle.entry.specs.Ends.{rows-short, no-rows, one-row, dialogue-refused, dialogue-no, dialogue-done}
 use Rattle.entry.specs.Replies.{left-as}
-use Rattle.paper.specs.Outcome.{Lent}
 use Rattle.paper.specs.Layout.{view}
 use Rattle.paper.specs.Calls.Call.{OnDialogue}
 use Rattle.paper.specs.Calls.{placeAt}
@@ -11,10 +10,9 @@ use Rattle.paper.specs.Dialogues.{Place, withControl, refusal, does, done as gi
 use Rattle.paper.specs.Rows.{cancelRow, rowOctets}
 use Rattle.paper.specs.declared.Row.{Row}
 use lib.Seq.{sets}
-use Prim.Native.Nat.{ℕ}
 use native.Mathlib.Omega.{arith}
 use mathlib.Core.List.{List, [], _∷_}
-use mathlib.Core.Path.{_≡_, refl, sym, ap, _∙_}
+use mathlib.Core.Path.{refl, sym, ap, _∙_}
 use borrow.Author.Needs.{needs}
 use Rattle.timing.proofs.timeout.Statement.{statement}
 use Rattle.timing.proofs.timeout.Tie as tie
