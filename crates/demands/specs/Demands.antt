@@ -14,7 +14,7 @@ use Rattle.paper.specs.Sizes.{placesInAll, services}
 use Rattle.paper.specs.Shares.{gives, others, free, sharesFit}
 use Rattle.paper.specs.Calls.{Table, Call, Out, guaranteeOf, limitOf, held, mayBegin, opened, openedAt, lowestFree, refuse, shows, octetsAt, beginAt, step, freshTable}
 use Rattle.paper.specs.Messages.{messageOf, isSound, beginTag}
-use Rattle.paper.specs.Writing.{causeAbortOctets}
+use Rattle.paper.specs.Writing.{causeAbortOctets, Written}
 use Rattle.paper.specs.Calls.Call.{Open, OnDialogue, Receive}
 use Rattle.paper.specs.Layout.{encode, view}
 use Rattle.paper.specs.Outcome.{Lent, Outcome, Gives, spacesFor, standing, given, shown, refusedBy, outcome, noSpace, one}
@@ -22,7 +22,6 @@ use Rattle.facts.specs.Fine.{Octets, Fine}
 use Rattle.facts.specs.Whole.{view-encode}
 use Rattle.facts.specs.Ready.{Ready, encode-stands}
 use Rattle.paper.specs.Rules.{rules}
-use Rattle.readback.specs.Written.{Written}
 use Rattle.kept.specs.Requests.{Formed, requestOf}
 use Rattle.kept.specs.Steps.{WellFormed}
 use Rattle.kept.specs.Tables.{outcome-ready, ready-rules}

@@ -14,7 +14,9 @@ use Rattle.paper.specs.Outcome.{Lent, Outcome, spacesFor, standing, shown, outc
 use Rattle.facts.specs.Fine.{Octets, FinePlace, Fine}
 use Rattle.facts.specs.Changes.{place-same}
 use Rattle.facts.specs.Owners.{owned-is}
-use Rattle.readback.specs.Written.{Written, Invoke, Result, Error, Reject, octetsOf, readAs}
+use Rattle.paper.specs.Writing.{Written, octetsOf}
+use Rattle.paper.specs.Writing.Written.{Invoke, Result, Error, Reject}
+use Rattle.readback.specs.Written.{readAs}
 use Rattle.kept.specs.Requests.{Formed, requestOf, passed-taken, fits}
 use Rattle.kept.specs.Listed.{listing}
 use Rattle.kept.specs.Waiting.{listing-put}

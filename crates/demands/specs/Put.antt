@@ -16,7 +16,8 @@ use Rattle.paper.specs.Dialogues.Request.{Invoke, Result, Error, UserReject, Ca
 use Rattle.paper.specs.Calls.{Table, Call, placeAt, mayBegin, octetsAt, destinationNumber, assigned, itemsOf}
 use Rattle.paper.specs.Calls.Call.{Open, OnDialogue, Receive}
 use Rattle.paper.specs.Rules.{hasPeer}
-use Rattle.readback.specs.Written.{Written, joined, itemsFrom}
+use Rattle.paper.specs.Writing.{Written, joined}
+use Rattle.readback.specs.Written.{itemsFrom}
 use Rattle.kept.specs.Listed.{listing, allFurther}
 
 -- a message's parts: its type; the octets of its IDs and of its dialogue portion, none where it has none; its cause, 65,535 for none;

@@ -18,7 +18,7 @@ use Rattle.paper.specs.Problems.{noProblem}
 use Rattle.paper.specs.Elements.{tagEnd, headAt, frameAt}
 use Rattle.paper.specs.Components.{Item, tagAt, componentAt, items, components}
 use Rattle.paper.specs.Messages.{Derived, uniTag, beginTag, endTag, continueTag, abortTag, noRun, isSound}
-use Rattle.paper.specs.Writing.{tlv, componentsOctets, beginOctets, continueOctets, endOctets, uniOctets, userAbortOctets}
+use Rattle.paper.specs.Writing.{tlv, componentsOctets, beginOctets, continueOctets, endOctets, uniOctets, userAbortOctets, Written, octetsOf, joined}
 use Rattle.paper.specs.Dialogues.{Place, Request, noReject, peerOf, allRejects, waitingRejects, rejectsFit, sentComponents, needsPeer, ofClass4, uniRefusal, abortRefusal, abortMessage, refusal, does}
 use Rattle.paper.specs.Dialogues.Request.{Invoke, Result, Error, UserReject, Cancel, Begin, Continue, End, Prearranged, Abort, Unidirectional, Timeout, RejectTimeout, NoReaction}
 use Rattle.paper.specs.Calls.{octetsAt, itemsOf}
@@ -27,7 +27,7 @@ use Rattle.paper.specs.Outcome.{spacesOf}
 use Rattle.facts.specs.Fine.{FineReject, FineControl, FinePlace}
 use Rattle.writing.specs.Heads.{messageHead, begin-joined, continue-joined, end-joined, uni-joined}
 use Rattle.writing.specs.Lengths.{length-small, element-length, message-small, message-length, id-length}
-use Rattle.readback.specs.Written.{Written, octetsOf, joined, AllAllowed, itemsFrom, starts, run, withComponents, Back, readUserAbort}
+use Rattle.readback.specs.Written.{AllAllowed, itemsFrom, starts, run, withComponents, Back, readUserAbort}
 use Rattle.readback.specs.Reading.{has-octets}
 use Rattle.readback.specs.ReadBack.{begin-read-back, continue-read-back, end-read-back, uni-read-back, user-abort-read-back}
 use Rattle.kept.specs.Leaves.{whether-b}

@@ -9,11 +9,11 @@ use Rattle.laws.specs.If.{ifEq, by-eq, was-ge, was-eq, was-yes, by-b, true-fals
 use Rattle.paper.specs.declared.Control.{Control}
 use Rattle.paper.specs.Problems.{kindOf}
 use Rattle.paper.specs.Components.{noID}
-use Rattle.paper.specs.Writing.{invokeOctets, resultOctets, errorOctets, rejectOctets}
+use Rattle.paper.specs.Writing.{invokeOctets, resultOctets, errorOctets, rejectOctets, Written, octetsOf}
 use Rattle.paper.specs.Invocations.{invocationOf, stateOf, toState, toIdle, passed, allTransmitted, mayReject}
 use Rattle.paper.specs.Dialogues.{Place, Request, Invoke, Result, Error, UserReject, Cancel, Begin, Continue, End, Prearranged, Abort, Unidirectional, Timeout, RejectTimeout, NoReaction, freed, begun, withControl, withState, withoutRejects, overfull, invokeRefusal, resultRefusal, errorRefusal, rejectRefusal, rejectedBy, afterSending, needsOpen, needsPeer, refusal, does}
 use Rattle.paper.specs.Rules.{hasPeer}
-use Rattle.readback.specs.Written.{Written, octetsOf, ResultTag, Allowed}
+use Rattle.readback.specs.Written.{ResultTag, Allowed}
 use Rattle.facts.specs.Fine.{FinePeer, FineControl, FinePlace}
 use Rattle.facts.specs.Slots.{empty-fine}
 use Rattle.kept.specs.Controls.{passed-fine, to-state-fine, to-idle-fine, transmitted-fine}

@@ -11,7 +11,9 @@ use Rattle.laws.specs.If.{eq, ne, by-eq}
 use Rattle.paper.specs.Components.{Item, components}
 use Rattle.paper.specs.Rules.{waitingKept}
 use Rattle.readback.specs.Standing.{Has, has-all}
-use Rattle.readback.specs.Written.{Written, Invoke, Result, Error, Reject, octetsOf, Allowed, readAs, joined, AllAllowed, itemsFrom}
+use Rattle.paper.specs.Writing.{Written, octetsOf, joined}
+use Rattle.paper.specs.Writing.Written.{Invoke, Result, Error, Reject}
+use Rattle.readback.specs.Written.{Allowed, readAs, AllAllowed, itemsFrom}
 use Rattle.readback.specs.Listing.{octets-some}
 use Rattle.readback.specs.ReadBack.{components-read-back}
 use Rattle.kept.specs.Listed.{listing, allFurther, Sound, none-sound, sound-join, sound-split, kept-sound, listing-none, listing-some, listing-copied, listing-append}

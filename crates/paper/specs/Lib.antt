@@ -13,6 +13,8 @@ pub mod Counting
 pub mod Layout
 pub mod Rules
 pub mod Readers
+pub mod Contents
+pub mod Ledger
 pub mod Outcome
 pub mod Computing
 pub mod Examples

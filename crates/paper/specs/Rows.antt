@@ -1,7 +1,7 @@
 -- ROWS (01, "Rows"). Assumes nothing.
 use mathlib.Core.List.{List, [], _∷_, _++_}
-use Prim.Native.Nat.{ℕ, _+_, _-_, _/_, _%_}
-use lib.ListN.{length}
+use Prim.Native.Nat.{ℕ, zero, suc, _+_, _*_, _-_, _/_, _%_}
+use lib.ListN.{length, getD}
 use Rattle.laws.specs.If.{ifLt}
 use Rattle.paper.specs.declared.Component.{Component}
 use Rattle.paper.specs.declared.Run.{Run}
@@ -30,6 +30,9 @@ rowUserAbort = 5
 
 abbrev pub rowAbort : ℕ
 rowAbort = 6
+
+abbrev pub rowRejected : ℕ
+rowRejected = 13
 
 abbrev pub rowCancel : ℕ
 rowCancel = 15
@@ -110,3 +113,23 @@ rowOctets r =
 unfoldable pub rowsOctets : List Row → List ℕ
 rowsOctets [] = []
 rowsOctets (r ∷ rs) = rowOctets r ++ rowsOctets rs
+
+-- AS A HOST READS THEM: the number of four octets at a position; n rows of 32 octets from a position on
+abbrev pub fourAt : List ℕ → ℕ → ℕ
+fourAt l a = getD l a 0 + getD l (a + 1) 0 * 256 + getD l (a + 2) 0 * 65536 + getD l (a + 3) 0 * 16777216
+
+unfoldable pub rowAt : List ℕ → ℕ → Row
+rowAt l a = record {
+  kind = fourAt l a;
+  dialogue = fourAt l (a + 4);
+  invoke = fourAt l (a + 8);
+  linked = fourAt l (a + 12);
+  problem = fourAt l (a + 16);
+  start = fourAt l (a + 20);
+  length = fourAt l (a + 24);
+  follow = fourAt l (a + 28);
+}
+
+unfoldable pub rowsAt : ℕ → ℕ → List ℕ → List Row
+rowsAt zero a l = []
+rowsAt (suc n) a l = rowAt l a ∷ rowsAt n (a + 32) l

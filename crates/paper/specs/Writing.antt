@@ -39,6 +39,25 @@ problemOctets p = (0x80 + kindOf p) ∷ 1 ∷ codeOf p ∷ []
 unfoldable pub rejectOctets : ℕ → ℕ → List ℕ
 rejectOctets id p = tlv rejectTag (ifEq id noID (5 ∷ 0 ∷ problemOctets p) (idThen id (problemOctets p)))
 
+-- A COMPONENT BY ITS PARTS: invoke ID, linked ID (256 none), operation, parameter; tag, invoke ID, operation, parameter; invoke
+-- ID, error, parameter; invoke ID (256 none), problem as in a row
+pub data Written : Type 0 where
+  Invoke : ℕ → ℕ → List ℕ → List ℕ → Written
+  Result : ℕ → ℕ → List ℕ → List ℕ → Written
+  Error : ℕ → List ℕ → List ℕ → Written
+  Reject : ℕ → ℕ → Written
+
+unfoldable pub octetsOf : Written → List ℕ
+octetsOf (Invoke id linked op par) = invokeOctets id linked op par
+octetsOf (Result tag id op par) = resultOctets tag id op par
+octetsOf (Error id err par) = errorOctets id err par
+octetsOf (Reject id p) = rejectOctets id p
+
+-- one after another
+unfoldable pub joined : List Written → List ℕ
+joined [] = []
+joined (w ∷ ws) = octetsOf w ++ joined ws
+
 -- "then 6C components, optional": absent where there is none
 unfoldable pub componentsOctets : List ℕ → List ℕ
 componentsOctets cs = ifEq (length cs) 0 [] (tlv 0x6C cs)

@@ -16,11 +16,12 @@ use Rattle.paper.specs.Elements.{element}
 use Rattle.paper.specs.Problems.{noProblem}
 use Rattle.paper.specs.Components.{invokeTag, errorTag, rejectTag, knownTag, noID, sound, componentAt, Item, item, nextStart, goOn, items, components}
 use Rattle.paper.specs.Dialogues.{isElement, isCode, isParameter, isResult}
-use Rattle.paper.specs.Writing.{tlv, idThen, invokeOctets, resultOctets, errorOctets, problemOctets, rejectOctets}
+use Rattle.paper.specs.Writing.{tlv, idThen, invokeOctets, resultOctets, errorOctets, problemOctets, rejectOctets, Written, octetsOf, joined}
+use Rattle.paper.specs.Writing.Written.{Invoke, Result, Error, Reject}
 use Rattle.elements.specs.Bounds.{element-in}
 use Rattle.writing.specs.Lengths.{element-length, invoke-plain, invoke-linked, result-none, result-both, reject-none, reject-some}
 use Rattle.readback.specs.Standing.{Has, has-first, has-rest}
-use Rattle.readback.specs.Written.{Written, Invoke, Result, Error, Reject, octetsOf, ResultTag, Allowed, placed, readAs, joined, AllAllowed, itemsFrom}
+use Rattle.readback.specs.Written.{ResultTag, Allowed, placed, readAs, AllAllowed, itemsFrom}
 use Rattle.readback.specs.Given.{Code, code-told, ended-at}
 use Rattle.readback.specs.Pieces.{Tagged, Reads, glue, placed-none}
 use Rattle.readback.specs.Kinds.{error-reads, invoke-reads, linked-reads, none-reads, both-reads, reject-reads, null-reads}

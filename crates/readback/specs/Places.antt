@@ -6,11 +6,12 @@ use mathlib.Core.List.{List, [], _∷_, _++_, append-assoc, append-nil}
 use lib.ListN.{length, length-append}
 use Rattle.laws.specs.If.{by-eq}
 use Rattle.paper.specs.Components.{invokeTag, errorTag, noID}
-use Rattle.paper.specs.Writing.{tlv, idThen, resultOctets, errorOctets, rejectOctets}
+use Rattle.paper.specs.Writing.{tlv, idThen, resultOctets, errorOctets, rejectOctets, Written, octetsOf}
+use Rattle.paper.specs.Writing.Written.{Invoke, Result, Error, Reject}
 use Rattle.writing.specs.Heads.{elementHead, element-joined}
 use Rattle.writing.specs.Lengths.{invoke-plain, invoke-linked, result-both}
 use Rattle.readback.specs.Standing.{Has, has-as, has-rest, has-at}
-use Rattle.readback.specs.Written.{Written, Invoke, Result, Error, Reject, octetsOf, Allowed, parameterOf}
+use Rattle.readback.specs.Written.{Allowed, parameterOf}
 use Rattle.readback.specs.Listing.{result-empty}
 
 record EndsWith (o l : List ℕ) : Type 0 where

@@ -12,9 +12,9 @@ use Rattle.paper.specs.Sizes.{depths}
 use Rattle.paper.specs.Elements.{element}
 use Rattle.paper.specs.Components.{codeEnd, componentAt, components}
 use Rattle.paper.specs.Dialogues.{isElement, isCode, isPortion}
-use Rattle.paper.specs.Writing.{beginOctets, continueOctets, endOctets, uniOctets, userAbortOctets, causeAbortOctets}
+use Rattle.paper.specs.Writing.{beginOctets, continueOctets, endOctets, uniOctets, userAbortOctets, causeAbortOctets, Written, octetsOf, joined}
 use Rattle.readback.specs.Standing.{Has, has-wrote}
-use Rattle.readback.specs.Written.{Written, octetsOf, Allowed, readAs, parameterOf, joined, AllAllowed, itemsFrom, readBegin, readContinue, readEnd, readUni, readUserAbort, readCauseAbort, Back}
+use Rattle.readback.specs.Written.{Allowed, readAs, parameterOf, AllAllowed, itemsFrom, readBegin, readContinue, readEnd, readUni, readUserAbort, readCauseAbort, Back}
 use Rattle.readback.specs.Given.{element-copied, code-told, code-copied}
 use Rattle.readback.specs.Listing.{component-told, components-back}
 use Rattle.readback.specs.Places.{parameter-there}

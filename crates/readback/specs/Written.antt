@@ -14,22 +14,9 @@ use Rattle.paper.specs.Components.{invokeTag, lastTag, errorTag, rejectTag, not
 use Rattle.paper.specs.Messages.{uniTag, beginTag, endTag, continueTag, abortTag, noRun, Derived, soundOf, messageOf}
 use Rattle.paper.specs.Dialogues.{isCode, isParameter, isResult}
 use Rattle.paper.specs.Calls.{octetsAt}
-use Rattle.paper.specs.Writing.{lengthOctets, tlv, invokeOctets, resultOctets, errorOctets, rejectOctets, componentsOctets, beginOctets, continueOctets, endOctets, uniOctets, userAbortOctets}
+use Rattle.paper.specs.Writing.{lengthOctets, tlv, Written, octetsOf, componentsOctets, beginOctets, continueOctets, endOctets, uniOctets, userAbortOctets}
+use Rattle.paper.specs.Writing.Written.{Invoke, Result, Error, Reject}
 use Rattle.readback.specs.Standing.{Has}
-
--- A COMPONENT, by its parts: invoke ID, linked ID (256 none), operation, parameter; tag, invoke ID, operation, parameter; invoke
--- ID, error, parameter; invoke ID (256 none), problem as in a row
-pub data Written : Type 0 where
-  Invoke : ℕ → ℕ → List ℕ → List ℕ → Written
-  Result : ℕ → ℕ → List ℕ → List ℕ → Written
-  Error : ℕ → List ℕ → List ℕ → Written
-  Reject : ℕ → ℕ → Written
-
-unfoldable pub octetsOf : Written → List ℕ
-octetsOf (Invoke id linked op par) = invokeOctets id linked op par
-octetsOf (Result tag id op par) = resultOctets tag id op par
-octetsOf (Error id err par) = errorOctets id err par
-octetsOf (Reject id p) = rejectOctets id p
 
 -- "A2 result last, A7 result not last"
 abbrev pub ResultTag : ℕ → Type 0
@@ -61,10 +48,6 @@ parameterOf (Error id err par) = par
 parameterOf (Reject id p) = []
 
 -- COMPONENTS one after another
-unfoldable pub joined : List Written → List ℕ
-joined [] = []
-joined (w ∷ ws) = octetsOf w ++ joined ws
-
 abbrev pub AllAllowed : List Written → Type 0
 AllAllowed [] = Unit
 AllAllowed (w ∷ ws) = Allowed w × AllAllowed ws
