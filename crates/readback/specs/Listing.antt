@@ -27,11 +27,11 @@ use Rattle.readback.specs.Pieces.{Tagged, Reads, glue, placed-none}
 use Rattle.readback.specs.Kinds.{error-reads, invoke-reads, linked-reads, none-reads, both-reads, reject-reads, null-reads}
 
 -- the five tags
-invoke-tagged : Tagged invokeTag
+pub invoke-tagged : Tagged invokeTag
 unfolding knownTag ifEq
 invoke-tagged = (((λ z. omega arith), (λ z. omega arith)), refl, refl)
 
-error-tagged : Tagged errorTag
+pub error-tagged : Tagged errorTag
 unfolding knownTag ifEq
 error-tagged = (((λ z. omega arith), (λ z. omega arith)), refl, refl)
 
@@ -39,7 +39,7 @@ reject-tagged : Tagged rejectTag
 unfolding knownTag ifEq
 reject-tagged = (((λ z. omega arith), (λ z. omega arith)), refl, refl)
 
-result-tagged : (t : ℕ) → ResultTag t → Tagged t
+pub result-tagged : (t : ℕ) → ResultTag t → Tagged t
 unfolding knownTag ifEq
 result-tagged t =
     ⊎-elim (λ z. subst Tagged (sym z) (((λ z. omega arith), (λ z. omega arith)), refl, refl))
@@ -50,7 +50,7 @@ parameter-told : (par : List ℕ) → isParameter par ≡ true → (length par �
 unfolding isParameter
 parameter-told par h some = by-eq _ _ _ _ (sym h) (λ z _. absurd (some z)) (λ z e. sym e)
 
-both-told : (op par : List ℕ) → isResult op par ≡ true → (length op ≡ 0 → ⊥) → (isCode op ≡ true) × (isElement 14 par ≡ true)
+pub both-told : (op par : List ℕ) → isResult op par ≡ true → (length op ≡ 0 → ⊥) → (isCode op ≡ true) × (isElement 14 par ≡ true)
 unfolding isResult
 both-told op par h some =
     by-eq _ _ _ _ (sym h) (λ z _. absurd (some z)) (λ z e. let w = was-yes _ _ _ e true-false in (w .0, sym (w .1)))
@@ -59,7 +59,7 @@ pub result-empty : (op par : List ℕ) → isResult op par ≡ true → length o
 unfolding isResult
 result-empty op par h none = by-eq _ _ _ _ (sym h) (λ z e. eqb-true (length par) 0 (sym e)) (λ z _. absurd (z none))
 
-element-some : (d : ℕ) (l : List ℕ) → isElement d l ≡ true → length l ≡ 0 → ⊥
+pub element-some : (d : ℕ) (l : List ℕ) → isElement d l ≡ true → length l ≡ 0 → ⊥
 unfolding isElement
 element-some d l h z = let w = element-in l d (length l) 0 (Ends (length l)) (ended-at (length l) (element l d (length l) 0) h) in omega arith
 
