@@ -7,8 +7,9 @@ use mathlib.Core.Logic.{_⊎_, ⊎-elim}
 use mathlib.Core.List.{List, [], _∷_, _++_}
 use lib.ListN.{length, length-append}
 use lib.Dec.{ltb}
-use borrow.Author.Tests.{eqb-true, lt-ltb, le-ltb}
-use Rattle.laws.specs.If.{ifEq, eq, by-eq, was-yes, true-false}
+use borrow.Author.Tests.{eqb-true, eq-eqb, lt-ltb, le-ltb}
+use Rattle.laws.specs.If.{ifEq, eq, yes, by-eq, was-yes, true-false}
+use Rattle.laws.specs.Lists.{every}
 use Rattle.paper.specs.declared.Reading.the-variants.{Ends}
 use Rattle.paper.specs.declared.Component.{Component}
 use Rattle.paper.specs.Sizes.{depths}
@@ -16,6 +17,7 @@ use Rattle.paper.specs.Elements.{element}
 use Rattle.paper.specs.Problems.{noProblem}
 use Rattle.paper.specs.Components.{invokeTag, errorTag, rejectTag, knownTag, noID, sound, componentAt, Item, item, nextStart, goOn, items, components}
 use Rattle.paper.specs.Dialogues.{isElement, isCode, isParameter, isResult}
+use Rattle.paper.specs.Rules.{isSoundItem}
 use Rattle.paper.specs.Writing.{tlv, idThen, invokeOctets, resultOctets, errorOctets, problemOctets, rejectOctets, Written, octetsOf, joined}
 use Rattle.paper.specs.Writing.Written.{Invoke, Result, Error, Reject}
 use Rattle.elements.specs.Bounds.{element-in}
@@ -175,3 +177,18 @@ module _ (s : List ℕ) (lim : ℕ) where
       → at + length (joined (w ∷ ws)) ≡ lim → itemsFrom at (w ∷ ws) ≡ components s lim at
   unfolding Items components
   components-back at w ws allowed has fits whole = items-back (lim - at + 1) at w ws allowed has fits whole (omega arith)
+
+-- each is sound
+read-sound : (w : Written) (x : ℕ) → readAs w x .fault ≡ 3
+unfolding readAs
+read-sound (Invoke id linked op par) x = refl
+read-sound (Result tag id op par) x = refl
+read-sound (Error id err par) x = refl
+read-sound (Reject id p) x = refl
+
+pub items-sound : (at : ℕ) (ws : List Written) → every isSoundItem (itemsFrom at ws) ≡ true
+unfolding itemsFrom every isSoundItem
+items-sound at [] = refl
+items-sound at (w ∷ ws) =
+    let x : ℕ = at + length (octetsOf w) in
+    sym (yes _ _ _ (eq-eqb (readAs w x .fault) 3 (read-sound w x)) (sym (items-sound x ws)))
