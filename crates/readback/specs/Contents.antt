@@ -78,11 +78,11 @@ module _ (s : List ℕ) (at : ℕ) where
       let e = end-has x (parameter-there s at w a has) (omega arith) in
       between-back (e .0) (e .1) (by-eq {r = toOf x n} _ _ _ _ refl (λ _ z. omega arith) (λ _ z. omega arith))
 
-  Parts : Written → Type 0
-  Parts w = Allowed w → Has s at (octetsOf w) → length (octetsOf w) < 65536 → at + length (octetsOf w) ≤ length s → partsOf s (itemOf w) ≡ w
+  BackOf : Written → Type 0
+  BackOf w = Allowed w → Has s at (octetsOf w) → length (octetsOf w) < 65536 → at + length (octetsOf w) ≤ length s → partsOf s (itemOf w) ≡ w
 
-  error-parts : (id : ℕ) (err par : List ℕ) → Parts (Error id err par)
-  unfolding Parts partsOf readAs octetsOf errorOctets
+  error-parts : (id : ℕ) (err par : List ℕ) → BackOf (Error id err par)
+  unfolding BackOf partsOf readAs octetsOf errorOctets
   error-parts id err par a has fits room =
       let x : ℕ = at + length (errorOctets id err par) in
       let w : Stands s x at errorTag (idThen id (err ++ par)) = stood x errorTag (idThen id (err ++ par)) refl error-tagged has fits (omega arith) in
@@ -90,12 +90,12 @@ module _ (s : List ℕ) (at : ℕ) where
       let p = parameter-back (Error id err par) a has room in
       sym (ne _ _ _ _ (λ z. omega arith) (eq _ _ _ _ refl (cc)))
 
-  reject-parts : (id p : ℕ) → Parts (Reject id p)
-  unfolding Parts partsOf readAs
+  reject-parts : (id p : ℕ) → BackOf (Reject id p)
+  unfolding BackOf partsOf readAs
   reject-parts id p a has fits room = sym (ne _ _ _ _ (λ z. omega arith) (ne _ _ _ _ (λ z. omega arith) (eq _ _ _ _ refl refl)))
 
-  invoke-parts : (id linked : ℕ) (op par : List ℕ) → Parts (Invoke id linked op par)
-  unfolding Parts partsOf readAs octetsOf
+  invoke-parts : (id linked : ℕ) (op par : List ℕ) → BackOf (Invoke id linked op par)
+  unfolding BackOf partsOf readAs octetsOf
   invoke-parts id linked op par a has fits room =
       let x : ℕ = at + length (octetsOf (Invoke id linked op par)) in
       let f : Frame = frameAt s depths x at in
@@ -130,8 +130,8 @@ module _ (s : List ℕ) (at : ℕ) where
       } in
       sym (code-in [] op par i refl (both-told op par formed some .0) (omega (arith, w .room)) 15 _ (omega arith))
 
-  result-parts : (t id : ℕ) (op par : List ℕ) → Parts (Result t id op par)
-  unfolding Parts partsOf readAs octetsOf
+  result-parts : (t id : ℕ) (op par : List ℕ) → BackOf (Result t id op par)
+  unfolding BackOf partsOf readAs octetsOf
   result-parts t id op par a has fits room =
       let x : ℕ = at + length (resultOctets t id op par) in
       let i : Item = itemOf (Result t id op par) in
@@ -146,7 +146,7 @@ module _ (s : List ℕ) (at : ℕ) where
 
   pub parts-read-back : (w : Written) → Allowed w → Has s at (octetsOf w) → length (octetsOf w) < 65536 → at + length (octetsOf w) ≤ length s
       → partsOf s (record { start = at; part = readAs w (at + length (octetsOf w)) }) ≡ w
-  unfolding Parts
+  unfolding BackOf
   parts-read-back (Invoke id linked op par) = invoke-parts id linked op par
   parts-read-back (Result tag id op par) = result-parts tag id op par
   parts-read-back (Error id err par) = error-parts id err par
