@@ -13,7 +13,7 @@ use Rattle.paper.specs.declared.Message.{Message}
 use Rattle.paper.specs.Sizes.{depths}
 use Rattle.paper.specs.Elements.{constructor, frameAt}
 use Rattle.paper.specs.Problems.{noProblem}
-use Rattle.paper.specs.Components.{Item, invokeTag, errorTag, rejectTag, noID}
+use Rattle.paper.specs.Components.{Item, invokeTag, errorTag, noID}
 use Rattle.paper.specs.Messages.{uniTag, beginTag, endTag, continueTag, abortTag, isSound}
 use Rattle.paper.specs.Dialogues.{isCode, isPortion}
 use Rattle.paper.specs.Writing.{tlv, idThen, errorOctets, resultOctets, Written, octetsOf, joined, beginOctets, continueOctets, endOctets, uniOctets, userAbortOctets, causeAbortOctets}
