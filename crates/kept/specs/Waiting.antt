@@ -12,9 +12,8 @@ use Rattle.paper.specs.Components.{Item, components}
 use Rattle.paper.specs.Rules.{waitingKept}
 use Rattle.readback.specs.Standing.{Has, has-all}
 use Rattle.paper.specs.Writing.{Written, octetsOf, joined}
-use Rattle.paper.specs.Writing.Written.{Invoke, Result, Error, Reject}
 use Rattle.readback.specs.Written.{Allowed, readAs, AllAllowed, itemsFrom}
-use Rattle.readback.specs.Listing.{octets-some}
+use Rattle.readback.specs.Listing.{octets-some, items-sound}
 use Rattle.readback.specs.ReadBack.{components-read-back}
 use Rattle.kept.specs.Listed.{listing, allFurther, Sound, none-sound, sound-join, sound-split, kept-sound, listing-none, listing-some, listing-copied, listing-append}
 
@@ -52,20 +51,6 @@ waiting-append w l a b =
     (sound-append (listing w) (allFurther (length w) (listing l)) (listed-kept w a) (sound-further (length w) (listing l) (listed-kept l b))))
 
 -- WHAT IS WRITTEN of parts that the rules allow
-read-sound : (w : Written) (x : ℕ) → readAs w x .fault ≡ 3
-unfolding readAs
-read-sound (Invoke id linked op par) x = refl
-read-sound (Result tag id op par) x = refl
-read-sound (Error id err par) x = refl
-read-sound (Reject id p) x = refl
-
-items-sound : (at : ℕ) (ws : List Written) → Sound (itemsFrom at ws)
-unfolding itemsFrom
-items-sound at [] = none-sound
-items-sound at (w ∷ ws) =
-    sound-join (record { start = at; part = readAs w (at + length (octetsOf w)) }) (itemsFrom (at + length (octetsOf w)) ws)
-    (read-sound w (at + length (octetsOf w))) (items-sound (at + length (octetsOf w)) ws)
-
 pub joined-kept : (ws : List Written) → AllAllowed ws → length (joined ws) < 65536 → waitingKept (joined ws) ≡ true
 unfolding joined
 joined-kept [] allowed fits = kept-none [] refl

@@ -59,11 +59,14 @@ module _ {s : List ℕ} {b e : ℕ} (id : ℕ) (op par : List ℕ) (small : id <
       (last-back g invokeTag id linked ∙ eq _ _ _ _ refl (ne _ _ _ _ (λ z. omega arith) (ap (λ (l : ℕ). lastPiece s invokeTag id l e e (codeEnd s e (b + 3 + 3))) i)))
 
 -- A RESULT, last or not last
+pub result-other : {A : Type 0} {r : A} (t : ℕ) (i e j x : A) → ResultTag t → r ≡ x → r ≡ ifEq t invokeTag i (ifEq t errorTag e (ifEq t rejectTag j x))
+result-other t i e j x tag is =
+    ⊎-elim (λ z. ne _ _ _ _ (λ y. omega arith) (ne _ _ _ _ (λ y. omega arith) (ne _ _ _ _ (λ y. omega arith) is)))
+    (λ z. ne _ _ _ _ (λ y. omega arith) (ne _ _ _ _ (λ y. omega arith) (ne _ _ _ _ (λ y. omega arith) is))) tag
+
 result-pieces : (s : List ℕ) (t id x e p : ℕ) → ResultTag t → resultPieces s t id x e p ≡ piecesAfter s t id x e p
 unfolding piecesAfter
-result-pieces s t id x e p tag =
-    ⊎-elim (λ z. ne _ _ _ _ (λ y. omega arith) (ne _ _ _ _ (λ y. omega arith) (ne _ _ _ _ (λ y. omega arith) refl)))
-    (λ z. ne _ _ _ _ (λ y. omega arith) (ne _ _ _ _ (λ y. omega arith) (ne _ _ _ _ (λ y. omega arith) refl))) tag
+result-pieces s t id x e p tag = result-other t _ _ _ _ tag refl
 
 module _ {s : List ℕ} {b e : ℕ} (t id : ℕ) (tag : ResultTag t) (small : id < 256) where
   pub none-reads : Has s b (idThen id []) → b + 3 ≡ e → Reads s t b e (sound t id noID noProblem e 0 0)

@@ -8,3 +8,4 @@ pub mod Reading
 pub mod Order
 pub mod Places
 pub mod ReadBack
+pub mod Contents

@@ -7,8 +7,9 @@ use mathlib.Core.Logic.{_⊎_, ⊎-elim}
 use mathlib.Core.List.{List, [], _∷_, _++_}
 use lib.ListN.{length, length-append}
 use lib.Dec.{ltb}
-use borrow.Author.Tests.{eqb-true, lt-ltb, le-ltb}
-use Rattle.laws.specs.If.{ifEq, eq, by-eq, was-yes, true-false}
+use borrow.Author.Tests.{eqb-true, eq-eqb, lt-ltb, le-ltb}
+use Rattle.laws.specs.If.{ifEq, eq, yes, by-eq, was-yes, true-false}
+use Rattle.laws.specs.Lists.{every}
 use Rattle.paper.specs.declared.Reading.the-variants.{Ends}
 use Rattle.paper.specs.declared.Component.{Component}
 use Rattle.paper.specs.Sizes.{depths}
@@ -16,6 +17,7 @@ use Rattle.paper.specs.Elements.{element}
 use Rattle.paper.specs.Problems.{noProblem}
 use Rattle.paper.specs.Components.{invokeTag, errorTag, rejectTag, knownTag, noID, sound, componentAt, Item, item, nextStart, goOn, items, components}
 use Rattle.paper.specs.Dialogues.{isElement, isCode, isParameter, isResult}
+use Rattle.paper.specs.Rules.{isSoundItem}
 use Rattle.paper.specs.Writing.{tlv, idThen, invokeOctets, resultOctets, errorOctets, problemOctets, rejectOctets, Written, octetsOf, joined}
 use Rattle.paper.specs.Writing.Written.{Invoke, Result, Error, Reject}
 use Rattle.elements.specs.Bounds.{element-in}
@@ -27,11 +29,11 @@ use Rattle.readback.specs.Pieces.{Tagged, Reads, glue, placed-none}
 use Rattle.readback.specs.Kinds.{error-reads, invoke-reads, linked-reads, none-reads, both-reads, reject-reads, null-reads}
 
 -- the five tags
-invoke-tagged : Tagged invokeTag
+pub invoke-tagged : Tagged invokeTag
 unfolding knownTag ifEq
 invoke-tagged = (((λ z. omega arith), (λ z. omega arith)), refl, refl)
 
-error-tagged : Tagged errorTag
+pub error-tagged : Tagged errorTag
 unfolding knownTag ifEq
 error-tagged = (((λ z. omega arith), (λ z. omega arith)), refl, refl)
 
@@ -39,7 +41,7 @@ reject-tagged : Tagged rejectTag
 unfolding knownTag ifEq
 reject-tagged = (((λ z. omega arith), (λ z. omega arith)), refl, refl)
 
-result-tagged : (t : ℕ) → ResultTag t → Tagged t
+pub result-tagged : (t : ℕ) → ResultTag t → Tagged t
 unfolding knownTag ifEq
 result-tagged t =
     ⊎-elim (λ z. subst Tagged (sym z) (((λ z. omega arith), (λ z. omega arith)), refl, refl))
@@ -50,7 +52,7 @@ parameter-told : (par : List ℕ) → isParameter par ≡ true → (length par �
 unfolding isParameter
 parameter-told par h some = by-eq _ _ _ _ (sym h) (λ z _. absurd (some z)) (λ z e. sym e)
 
-both-told : (op par : List ℕ) → isResult op par ≡ true → (length op ≡ 0 → ⊥) → (isCode op ≡ true) × (isElement 14 par ≡ true)
+pub both-told : (op par : List ℕ) → isResult op par ≡ true → (length op ≡ 0 → ⊥) → (isCode op ≡ true) × (isElement 14 par ≡ true)
 unfolding isResult
 both-told op par h some =
     by-eq _ _ _ _ (sym h) (λ z _. absurd (some z)) (λ z e. let w = was-yes _ _ _ e true-false in (w .0, sym (w .1)))
@@ -59,7 +61,7 @@ pub result-empty : (op par : List ℕ) → isResult op par ≡ true → length o
 unfolding isResult
 result-empty op par h none = by-eq _ _ _ _ (sym h) (λ z e. eqb-true (length par) 0 (sym e)) (λ z _. absurd (z none))
 
-element-some : (d : ℕ) (l : List ℕ) → isElement d l ≡ true → length l ≡ 0 → ⊥
+pub element-some : (d : ℕ) (l : List ℕ) → isElement d l ≡ true → length l ≡ 0 → ⊥
 unfolding isElement
 element-some d l h z = let w = element-in l d (length l) 0 (Ends (length l)) (ended-at (length l) (element l d (length l) 0) h) in omega arith
 
@@ -175,3 +177,18 @@ module _ (s : List ℕ) (lim : ℕ) where
       → at + length (joined (w ∷ ws)) ≡ lim → itemsFrom at (w ∷ ws) ≡ components s lim at
   unfolding Items components
   components-back at w ws allowed has fits whole = items-back (lim - at + 1) at w ws allowed has fits whole (omega arith)
+
+-- each is sound
+read-sound : (w : Written) (x : ℕ) → readAs w x .fault ≡ 3
+unfolding readAs
+read-sound (Invoke id linked op par) x = refl
+read-sound (Result tag id op par) x = refl
+read-sound (Error id err par) x = refl
+read-sound (Reject id p) x = refl
+
+pub items-sound : (at : ℕ) (ws : List Written) → every isSoundItem (itemsFrom at ws) ≡ true
+unfolding itemsFrom every isSoundItem
+items-sound at [] = refl
+items-sound at (w ∷ ws) =
+    let x : ℕ = at + length (octetsOf w) in
+    sym (yes _ _ _ (eq-eqb (readAs w x .fault) 3 (read-sound w x)) (sym (items-sound x ws)))

@@ -1,6 +1,6 @@
 -- A component's parameter is its last octets. Assumes nothing.
 use native.Mathlib.Omega.{arith}
-use Prim.Native.Nat.{ℕ, _+_, _-_}
+use Prim.Native.Nat.{ℕ, _+_, _-_, _≤_}
 use mathlib.Core.Path.{_≡_, refl, sym, _∙_, ap}
 use mathlib.Core.List.{List, [], _∷_, _++_, append-assoc, append-nil}
 use lib.ListN.{length, length-append}
@@ -51,6 +51,9 @@ parameter-last (Result tag id op par) a =
     (after-head tag (idThen id (tlv 0x30 (op ++ par))) par (after-some (2 ∷ 1 ∷ id ∷ []) (tlv 0x30 (op ++ par)) par (after-head 0x30 (op ++ par) par (last-of op par)))))
 parameter-last (Error id err par) a = after-head errorTag (idThen id (err ++ par)) par (after-some (2 ∷ 1 ∷ id ∷ []) (err ++ par) par (last-of err par))
 parameter-last (Reject id p) a = none-last (rejectOctets id p) [] refl
+
+pub parameter-fits : (w : Written) → Allowed w → length (parameterOf w) ≤ length (octetsOf w)
+parameter-fits w a = let e = parameter-last w a in omega (arith, length-append (e .before) (parameterOf w), ap length (e .is))
 
 pub parameter-there : (s : List ℕ) (at : ℕ) (w : Written) → Allowed w → Has s at (octetsOf w)
     → Has s (at + length (octetsOf w) - length (parameterOf w)) (parameterOf w)
