@@ -20,7 +20,7 @@ use Rattle.kept.specs.Leaves.{whether-eq, whether-lt, whether-b}
 use Rattle.demands.specs.Rows.{octets-long}
 use Rattle.demands.specs.Stands.{stands-ready}
 
--- A RECEIVED MESSAGE that is read is answered 0; without a row it changes no table: it is dropped, answered by an Abort alone, or Unidirectional
+-- A RECEIVED MESSAGE that is read is answered 0; one without a row was dropped, or answered by an Abort alone, and changes no table
 pub record Quiet (T : Table) (o : Out) : Type 0 where
   pub done : o .answer ≡ 0
   pub same : length (o .rows) ≡ 0 → o .table ≡ T
@@ -57,13 +57,16 @@ module _ (T : Table) where
 -- A DROPPED MESSAGE changes nothing: "no row, no message, no octet changed"
 quiet-step : (T : Table) (service : ℕ) (s : List ℕ) → length (step T (Receive service s) .rows) ≡ 0 → step T (Receive service s) .table ≡ T
 unfolding step receivedIf
-quiet-step T service s = whether-lt Same _ _ _ _ (whether-eq Same _ _ _ _ (λ e. refl) (whether-lt Same _ _ _ _ (λ e. refl) (received-quiet T service s (messageOf s) .same))) (λ e. refl)
+quiet-step T service s =
+    whether-lt Same _ _ _ _
+    (whether-eq Same _ _ _ _ (λ e. refl) (whether-lt Same _ _ _ _ (λ e. refl) (received-quiet T service s (messageOf s) .same)))
+    (λ e. refl)
   where
     Same : Out → Type 0
     Same o = length (o .rows) ≡ 0 → o .table ≡ T
 
-pub dropped-changes-nothing : (l : Lent) (service : ℕ) (s : List ℕ) → Octets (l .table) → outcome l (Receive service s) .rows ≡ 0 → outcome l (Receive service s) .length ≡ 0
-    → outcome l (Receive service s) .lent ≡ l
+pub dropped-changes-nothing : (l : Lent) (service : ℕ) (s : List ℕ) → Octets (l .table)
+    → outcome l (Receive service s) .rows ≡ 0 → outcome l (Receive service s) .length ≡ 0 → outcome l (Receive service s) .lent ≡ l
 unfolding outcome rowsOctets
 dropped-changes-nothing l service s o = stand (standing l (spacesFor (Receive service s))) refl
   where
