@@ -1,6 +1,9 @@
 pub mod Stands
 pub mod Rows
 pub mod Fits
+pub mod Tails
+pub mod Applies
+pub mod Lowest
 pub mod Begins
 pub mod Put
 pub mod Sent
