@@ -36,7 +36,7 @@ find-id (x ∷ l) d e h =
 -- ALTERED: an alteration leaves the ID and the service
 module _ (d : ℕ) (f : Entry → Entry) (id : (e : Entry) → f e .id ≡ e .id) where
   pub find-altered : (l : List Entry) → find (altered l d f) d ≡ mapped f (find l d)
-  unfolding altered
+  unfolding altered find
   find-altered [] = refl
   find-altered (e ∷ l) =
       by-eq {r = altered (e ∷ l) d f} _ _ _ _ refl

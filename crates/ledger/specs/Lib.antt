@@ -1,1 +1,4 @@
 pub mod Entries
+pub mod Agrees
+pub mod Acting
+pub mod Sending
