@@ -158,11 +158,11 @@ quiet-open T service = whether-lt Quiet service services _ _ (whether-b Quiet _ 
 few-rows : (rs : List Row) (l : Lent) → rs ≡ [] → 32 * length rs ≤ length (l .rows)
 few-rows rs l e = omega (arith, ap (λ (x : List Row). length x) e)
 
-rows-fit : (T : Table) (l : Lent) (c : Call) → WellFormed c → standing l (spacesFor c) ≡ 0 → 32 * length (step T c .rows) ≤ length (l .rows)
-rows-fit T l (Open service) o e = few-rows _ l (quiet-open T service)
-rows-fit T l (Receive service s) o e = omega (arith, step-fit T (Receive service s) o .few, stands l (spacesFor (Receive service s)) e .rows)
-rows-fit T l (OnDialogue service dialogue r) o e =
-    by-space (spacesOf r .rows) refl (omega (arith, step-fit T (OnDialogue service dialogue r) o .few)) (stands l (spacesOf r) e .rows) (either r)
+rows-fit : (T : Table) → Fine T → (l : Lent) (c : Call) → WellFormed c → standing l (spacesFor c) ≡ 0 → 32 * length (step T c .rows) ≤ length (l .rows)
+rows-fit T f l (Open service) o e = few-rows _ l (quiet-open T service)
+rows-fit T f l (Receive service s) o e = omega (arith, step-fit T f (Receive service s) o .few, stands l (spacesFor (Receive service s)) e .rows)
+rows-fit T f l (OnDialogue service dialogue r) o e =
+    by-space (spacesOf r .rows) refl (omega (arith, step-fit T f (OnDialogue service dialogue r) o .few)) (stands l (spacesOf r) e .rows) (either r)
   where
     either : (r : Request) → (spacesOf r .rows ≡ 0) ⊎ (spacesOf r .rows ≡ 4096)
     either (Invoke id linked class op par) = inl refl
@@ -233,10 +233,10 @@ next T f m o = stand (standing l (spacesFor (m .call))) refl
         left = step-left T f (m .call) o
 
         fit : Fit (g .rows)
-        fit = subst (λ (x : Out). Fit (x .rows)) (sym e) (step-fit T (m .call) o)
+        fit = subst (λ (x : Out). Fit (x .rows)) (sym e) (step-fit T f (m .call) o)
 
         room : 32 * length (g .rows) ≤ length (l .rows)
-        room = subst (λ (x : Out). 32 * length (x .rows) ≤ length (l .rows)) (sym e) (rows-fit T l (m .call) o st)
+        room = subst (λ (x : Out). 32 * length (x .rows) ≤ length (l .rows)) (sym e) (rows-fit T f l (m .call) o st)
 
         counts : (s : ℕ) → ifEq (serviceOf (m .call)) s (begunAt (m .call) (given l g)) 0 + held (T .places) s ≡ ifEq (serviceOf (m .call)) s (endedAt (m .call) (given l g)) 0 + held (g .table .places) s
         counts s =
