@@ -10,19 +10,20 @@ use Rattle.laws.specs.If.{ifEq, eq, ne}
 use Rattle.laws.specs.Sums.{sumBy}
 use Rattle.paper.specs.declared.Row.{Row}
 use Rattle.paper.specs.Sizes.{services, placeOf}
-use Rattle.paper.specs.Rows.{rowsOctets, rowBegin, rowEnd, rowUserAbort, rowAbort}
+use Rattle.paper.specs.Rows.{rowsOctets, rowsAt, rowBegin, rowEnd, rowUserAbort, rowAbort}
 use Rattle.paper.specs.Dialogues.{Place, Request, refusal, does, request, unlessRefused}
 use Rattle.paper.specs.Dialogues.Request.{Invoke, Result, Error, UserReject, Cancel, Begin, Continue, End, Prearranged, Abort, Unidirectional, Timeout, RejectTimeout, NoReaction}
 use Rattle.paper.specs.Calls.{Table, Call, Out, placeAt, held, stored, requested, opened, step}
 use Rattle.paper.specs.Calls.Call.{Open, OnDialogue, Receive}
 use Rattle.paper.specs.Layout.{encode, view}
+use Rattle.paper.specs.Ledger.{Told}
 use Rattle.paper.specs.Outcome.{Lent, Outcome, spacesOf, spacesFor, standing, given, shown, refusedBy, outcome}
 use Rattle.facts.specs.Fine.{Fine}
 use Rattle.facts.specs.Whole.{view-encode}
 use Rattle.kept.specs.Leaves.{whether-lt, whether-b}
 use Rattle.paper.specs.Counting.{isBegun, isEnded, openedBy, endsBy, serviceOf, begunBy, endedBy}
 use Rattle.kept.specs.Steps.{WellFormed, Left, step-left, step-counted}
-use Rattle.demands.specs.Rows.{sumKinds, kinds-back}
+use Rattle.demands.specs.Rows.{sumKinds, rows-back, kinds-back}
 use Rattle.demands.specs.Fits.{Fit, step-fit}
 use Rattle.demands.specs.Stands.{stands}
 
@@ -158,11 +159,11 @@ quiet-open T service = whether-lt Quiet service services _ _ (whether-b Quiet _ 
 few-rows : (rs : List Row) (l : Lent) → rs ≡ [] → 32 * length rs ≤ length (l .rows)
 few-rows rs l e = omega (arith, ap (λ (x : List Row). length x) e)
 
-rows-fit : (T : Table) (l : Lent) (c : Call) → WellFormed c → standing l (spacesFor c) ≡ 0 → 32 * length (step T c .rows) ≤ length (l .rows)
-rows-fit T l (Open service) o e = few-rows _ l (quiet-open T service)
-rows-fit T l (Receive service s) o e = omega (arith, step-fit T (Receive service s) o .few, stands l (spacesFor (Receive service s)) e .rows)
-rows-fit T l (OnDialogue service dialogue r) o e =
-    by-space (spacesOf r .rows) refl (omega (arith, step-fit T (OnDialogue service dialogue r) o .few)) (stands l (spacesOf r) e .rows) (either r)
+rows-fit : (T : Table) → Fine T → (l : Lent) (c : Call) → WellFormed c → standing l (spacesFor c) ≡ 0 → 32 * length (step T c .rows) ≤ length (l .rows)
+rows-fit T f l (Open service) o e = few-rows _ l (quiet-open T service)
+rows-fit T f l (Receive service s) o e = omega (arith, step-fit T f (Receive service s) o .few, stands l (spacesFor (Receive service s)) e .rows)
+rows-fit T f l (OnDialogue service dialogue r) o e =
+    by-space (spacesOf r .rows) refl (omega (arith, step-fit T f (OnDialogue service dialogue r) o .few)) (stands l (spacesOf r) e .rows) (either r)
   where
     either : (r : Request) → (spacesOf r .rows ≡ 0) ⊎ (spacesOf r .rows ≡ 4096)
     either (Invoke id linked class op par) = inl refl
@@ -233,10 +234,10 @@ next T f m o = stand (standing l (spacesFor (m .call))) refl
         left = step-left T f (m .call) o
 
         fit : Fit (g .rows)
-        fit = subst (λ (x : Out). Fit (x .rows)) (sym e) (step-fit T (m .call) o)
+        fit = subst (λ (x : Out). Fit (x .rows)) (sym e) (step-fit T f (m .call) o)
 
         room : 32 * length (g .rows) ≤ length (l .rows)
-        room = subst (λ (x : Out). 32 * length (x .rows) ≤ length (l .rows)) (sym e) (rows-fit T l (m .call) o st)
+        room = subst (λ (x : Out). 32 * length (x .rows) ≤ length (l .rows)) (sym e) (rows-fit T f l (m .call) o st)
 
         counts : (s : ℕ) → ifEq (serviceOf (m .call)) s (begunAt (m .call) (given l g)) 0 + held (T .places) s ≡ ifEq (serviceOf (m .call)) s (endedAt (m .call) (given l g)) 0 + held (g .table .places) s
         counts s =
@@ -266,3 +267,14 @@ history T f (m ∷ ms) o = on (next T f m (o .0)) (history (next T f m (o .0) .t
       shares = (r .shares .0 ∙ n .shares .0, r .shares .1 ∙ n .shares .1);
       counts = λ s. omega (arith, n .counts s, r .counts s, ap (λ (t : List ℕ). begunOf s t ms) (n .table), ap (λ (t : List ℕ). endedOf s t ms) (n .table));
     }
+
+-- WHAT A HOST SEES OF A CALL: the answer, the dialogue and the rows, read from the row space that it lent
+abbrev pub told : Outcome → Told
+told o = record { answer = o .answer; dialogue = o .dialogue; rows = rowsAt (o .rows) 0 (o .lent .rows) }
+
+-- of one answered 0, the rows of its step
+pub told-step : (T : Table) → Fine T → (l : Lent) (c : Call) → WellFormed c → standing l (spacesFor c) ≡ 0 → step T c .answer ≡ 0
+    → told (given l (step T c)) ≡ record { answer = 0; dialogue = step T c .dialogue; rows = step T c .rows }
+told-step T f l c o e z =
+    ap (λ (rs : List Row). record { answer = 0; dialogue = step T c .dialogue; rows = rs })
+    (rows-back (step T c .rows) 0 (l .rows) (step-fit T f c o .small) (omega (arith, rows-fit T f l c o e)))

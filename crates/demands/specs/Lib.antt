@@ -1,5 +1,6 @@
 pub mod Stands
 pub mod Rows
+pub mod Small
 pub mod Fits
 pub mod Tails
 pub mod Applies

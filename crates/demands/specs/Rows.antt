@@ -1,8 +1,9 @@
--- ROWS AS THE HOST READS THEM: they fit into the row space, and their kinds are had back from its octets. Assumes nothing.
+-- ROWS AS THE HOST READS THEM: they fit into the row space, and are had back from its octets. Assumes nothing.
 use mathlib.Core.Path.{_≡_, refl, sym, ap, _∙_}
 use mathlib.Core.Bool.{Bool, true, false}
 use mathlib.Core.List.{List, [], _∷_, _++_}
 use Prim.Native.Nat.{ℕ, zero, suc, _+_, _*_, _-_, _/_, _%_, _≤_, _<_}
+use native.Mathlib.Nat.{div-add-mod'}
 use native.Mathlib.Omega.{arith}
 use lib.ListN.{length, getD, length-append}
 use lib.Seq.{sets, length-sets}
@@ -10,12 +11,12 @@ use lib.Dec.{ltb}
 use borrow.Author.Tests.{ltb-true}
 use Rattle.laws.specs.If.{by-eq}
 use Rattle.laws.specs.Sums.{sumBy}
-use Rattle.laws.specs.Runs.{join, before, inside}
+use Rattle.laws.specs.Runs.{join, inside}
 use Rattle.paper.specs.declared.Control.{Control}
 use Rattle.paper.specs.declared.Row.{Row}
 use Rattle.paper.specs.Components.{Item, items, components, componentAt, nextStart, goOn}
 use Rattle.paper.specs.Invocations.{act}
-use Rattle.paper.specs.Rows.{rowOctets, rowsOctets, componentRows}
+use Rattle.paper.specs.Rows.{rowOctets, rowsOctets, componentRows, fourAt, rowAt, rowsAt}
 use Rattle.components.specs.Bounds.{component-in}
 use Rattle.facts.specs.Fine.{Octets}
 
@@ -54,46 +55,87 @@ unfolding rowsOctets
 octets-long [] = refl
 octets-long (r ∷ rs) = omega (arith, length-append (rowOctets r) (rowsOctets rs), octets-long rs)
 
--- THE KIND OF A ROW at a position of the row space: four octets, least significant first
-abbrev pub kindAt : List ℕ → ℕ → ℕ
-kindAt l a = getD l a 0 + getD l (a + 1) 0 * 256 + getD l (a + 2) 0 * 65536 + getD l (a + 3) 0 * 16777216
-
--- a weight over the kinds of n rows from a position on, together
-unfoldable pub sumKinds : (ℕ → ℕ) → ℕ → ℕ → List ℕ → ℕ
-sumKinds f zero a l = 0
-sumKinds f (suc n) a l = f (kindAt l a) + sumKinds f n (a + 32) l
-
--- what stands before a run is read as it was
-kind-before : (l : List ℕ) (a b : ℕ) (xs : List ℕ) → a + 4 ≤ b → kindAt (sets l b xs) a ≡ kindAt l a
-kind-before l a b xs h =
-    omega (arith, before l b xs a (omega arith), before l b xs (a + 1) (omega arith), before l b xs (a + 2) (omega arith), before l b xs (a + 3) (omega arith))
-
--- and the kind that was written: all are below 256
-kind-written : (l : List ℕ) (a : ℕ) (r : Row) → a + 32 ≤ length l → r .kind < 256 → kindAt (sets l a (rowOctets r)) a ≡ r .kind
-kind-written l a r h k =
-    let z : getD (sets l a (rowOctets r)) a 0 ≡ r .kind % 256 = ap (λ (i : ℕ). getD (sets l a (rowOctets r)) i 0) (first a) ∙ inside l a (rowOctets r) 0 (omega arith) (omega arith) in
-    let o : getD (sets l a (rowOctets r)) (a + 1) 0 ≡ r .kind / 256 % 256 = inside l a (rowOctets r) 1 (omega arith) (omega arith) in
-    let t : getD (sets l a (rowOctets r)) (a + 2) 0 ≡ r .kind / 65536 % 256 = inside l a (rowOctets r) 2 (omega arith) (omega arith) in
-    let u : getD (sets l a (rowOctets r)) (a + 3) 0 ≡ r .kind / 16777216 % 256 = inside l a (rowOctets r) 3 (omega arith) (omega arith) in
-    omega (arith, z, o, t, u)
-  where
-    first : (a : ℕ) → a ≡ a + 0
-    first a = omega arith
+-- A ROW OF NUMBERS BELOW 2 ^ 32, that four octets hold
+pub record SmallRow (r : Row) : Type 0 where
+  pub kind : r .kind < 4294967296
+  pub dialogue : r .dialogue < 4294967296
+  pub invoke : r .invoke < 4294967296
+  pub linked : r .linked < 4294967296
+  pub problem : r .problem < 4294967296
+  pub start : r .start < 4294967296
+  pub length : r .length < 4294967296
+  pub follow : r .follow < 4294967296
 
 abbrev pub noRow : Row
 noRow = record { kind = 0; dialogue = 0; invoke = 0; linked = 0; problem = 0; start = 0; length = 0; follow = 0 }
 
--- KINDS ARE READ BACK
-pub kinds-back : (f : ℕ → ℕ) (rs : List Row) (a : ℕ) (l : List ℕ) → ((i : ℕ) → i < length rs → getD rs i noRow .kind < 256) → a + 32 * length rs ≤ length l
-    → sumKinds f (length rs) a (sets l a (rowsOctets rs)) ≡ sumBy (λ (r : Row). f (r .kind)) rs
-unfolding sumKinds rowsOctets
-kinds-back f [] a l k h = refl
-kinds-back f (r ∷ rs) a l k h =
+abbrev pub AllSmall : List Row → Type 0
+AllSmall rs = (i : ℕ) → i < length rs → SmallRow (getD rs i noRow)
+
+-- the number that four octets were made of
+four-digits : (n : ℕ) → n < 4294967296 → n % 256 + n / 256 % 256 * 256 + n / 65536 % 256 * 65536 + n / 16777216 % 256 * 16777216 ≡ n
+four-digits n h =
+    let a : n / 65536 ≡ n / 256 / 256 = omega arith in
+    let b : n / 16777216 ≡ n / 65536 / 256 = omega arith in
+    let c : n / 16777216 % 256 ≡ n / 16777216 = omega arith in
+    omega (arith, div-add-mod' n 256, div-add-mod' (n / 256) 256, div-add-mod' (n / 65536) 256)
+
+-- four octets of a run that was written are read where it stands
+module _ (l : List ℕ) (a : ℕ) (xs : List ℕ) (room : a + length xs ≤ length l) where
+  octet-back : (b i : ℕ) → b ≡ a + i → i < length xs → getD (sets l a xs) b 0 ≡ getD xs i 0
+  octet-back b i e h = ap (λ (k : ℕ). getD (sets l a xs) k 0) e ∙ inside l a xs i h room
+
+  four-back : (b i : ℕ) → b ≡ a + i → i + 4 ≤ length xs → fourAt (sets l a xs) b ≡ fourAt xs i
+  four-back b i e h =
+      omega (arith, octet-back b i e (omega arith), octet-back (b + 1) (i + 1) (omega arith) (omega arith), octet-back (b + 2) (i + 2) (omega arith) (omega arith), octet-back (b + 3) (i + 3) (omega arith) (omega arith))
+
+-- a row is the record of its fields
+same-row : {kind dialogue invoke linked problem start long follow : ℕ} (r : Row) → kind ≡ r .kind → dialogue ≡ r .dialogue → invoke ≡ r .invoke
+    → linked ≡ r .linked → problem ≡ r .problem → start ≡ r .start → long ≡ r .length → follow ≡ r .follow
+    → record { kind = kind; dialogue = dialogue; invoke = invoke; linked = linked; problem = problem; start = start; length = long; follow = follow } ≡ r
+same-row r a b c d e f g h = rw (a, b, c, d, e, f, g, h)
+
+-- so is the row that begins a run
+row-back : (l : List ℕ) (a : ℕ) (r : Row) (xs : List ℕ) → SmallRow r → a + length (rowOctets r ++ xs) ≤ length l → rowAt (sets l a (rowOctets r ++ xs)) a ≡ r
+unfolding rowAt
+row-back l a r xs k h =
+    same-row r
+    (four a 0 (omega arith) (omega arith) ∙ four-digits (r .kind) (k .kind))
+    (four (a + 4) 4 refl (omega arith) ∙ four-digits (r .dialogue) (k .dialogue))
+    (four (a + 8) 8 refl (omega arith) ∙ four-digits (r .invoke) (k .invoke))
+    (four (a + 12) 12 refl (omega arith) ∙ four-digits (r .linked) (k .linked))
+    (four (a + 16) 16 refl (omega arith) ∙ four-digits (r .problem) (k .problem))
+    (four (a + 20) 20 refl (omega arith) ∙ four-digits (r .start) (k .start))
+    (four (a + 24) 24 refl (omega arith) ∙ four-digits (r .length) (k .length))
+    (four (a + 28) 28 refl (omega arith) ∙ four-digits (r .follow) (k .follow))
+  where
+    four : (b i : ℕ) → b ≡ a + i → i + 4 ≤ 32 → fourAt (sets l a (rowOctets r ++ xs)) b ≡ fourAt (rowOctets r ++ xs) i
+    four b i e w = four-back l a (rowOctets r ++ xs) h b i e (omega arith)
+
+-- ROWS ARE READ BACK
+pub rows-back : (rs : List Row) (a : ℕ) (l : List ℕ) → AllSmall rs → a + 32 * length rs ≤ length l
+    → rowsAt (length rs) a (sets l a (rowsOctets rs)) ≡ rs
+unfolding rowsAt rowsOctets
+rows-back [] a l k h = refl
+rows-back (r ∷ rs) a l k h =
     let m : List ℕ = sets l a (rowOctets r) in
     let g : length m ≡ length l = length-sets l a (rowOctets r) in
-    let e : sets l a (rowOctets r ++ rowsOctets rs) ≡ sets m (a + 32) (rowsOctets rs) = sym (join l a (rowOctets r) (rowsOctets rs)) in
-    let one : kindAt (sets l a (rowOctets r ++ rowsOctets rs)) a ≡ r .kind =
-    ap (λ (n : List ℕ). kindAt n a) e ∙ kind-before m a (a + 32) (rowsOctets rs) (omega arith) ∙ kind-written l a r (omega arith) (k 0 (omega arith)) in
-    let rest : sumKinds f (length rs) (a + 32) (sets l a (rowOctets r ++ rowsOctets rs)) ≡ sumBy (λ (q : Row). f (q .kind)) rs =
-    ap (sumKinds f (length rs) (a + 32)) e ∙ kinds-back f rs (a + 32) m (λ i w. k (suc i) (omega arith)) (omega arith) in
-    omega (arith, ap f one, rest)
+    let one : rowAt (sets l a (rowOctets r ++ rowsOctets rs)) a ≡ r = row-back l a r (rowsOctets rs) (k 0 (omega arith)) (omega (arith, octets-long rs)) in
+    let rest : rowsAt (length rs) (a + 32) (sets l a (rowOctets r ++ rowsOctets rs)) ≡ rs =
+    ap (rowsAt (length rs) (a + 32)) (sym (join l a (rowOctets r) (rowsOctets rs))) ∙ rows-back rs (a + 32) m (λ i w. k (suc i) (omega arith)) (omega arith) in
+    cc
+
+-- a weight over the kinds of n rows from a position on, together: a row begins with its kind
+unfoldable pub sumKinds : (ℕ → ℕ) → ℕ → ℕ → List ℕ → ℕ
+sumKinds f zero a l = 0
+sumKinds f (suc n) a l = f (fourAt l a) + sumKinds f n (a + 32) l
+
+kinds-of-rows : (f : ℕ → ℕ) (n a : ℕ) (l : List ℕ) → sumKinds f n a l ≡ sumBy (λ (r : Row). f (r .kind)) (rowsAt n a l)
+unfolding sumKinds rowsAt rowAt
+kinds-of-rows f zero a l = refl
+kinds-of-rows f (suc n) a l = ap (λ (k : ℕ). f (fourAt l a) + k) (kinds-of-rows f n (a + 32) l)
+
+-- so are their kinds
+pub kinds-back : (f : ℕ → ℕ) (rs : List Row) (a : ℕ) (l : List ℕ) → AllSmall rs → a + 32 * length rs ≤ length l
+    → sumKinds f (length rs) a (sets l a (rowsOctets rs)) ≡ sumBy (λ (r : Row). f (r .kind)) rs
+kinds-back f rs a l k h = kinds-of-rows f (length rs) a (sets l a (rowsOctets rs)) ∙ ap (sumBy (λ (r : Row). f (r .kind))) (rows-back rs a l k h)
