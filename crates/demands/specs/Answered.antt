@@ -27,7 +27,7 @@ use Rattle.readback.specs.Written.{readCauseAbort}
 use Rattle.readback.specs.ReadBack.{cause-abort-read-back}
 use Rattle.kept.specs.Leaves.{whether-lt, whether-eq, whether-b}
 use Rattle.demands.specs.Stands.{stands, stands-ready}
-use Rattle.demands.specs.Begins.{Read, message-read}
+use Rattle.ledger.specs.Read.{Read, message-read}
 use Rattle.demands.specs.Put.{aborts, causeOf, putBy, putFor, putIn, ReadBack}
 use Rattle.demands.specs.Sent.{Sent, none-sent, abort-read, does-sent}
 

@@ -28,7 +28,7 @@ use Rattle.kept.specs.Shared.{lowest-there}
 use Rattle.kept.specs.Steps.{WellFormed}
 use Rattle.demands.specs.Rows.{SmallRow, AllSmall, components-few, rows-long}
 use Rattle.demands.specs.Small.{none-small, more-small, dialogue-small, cancel-small, AllLie, components-lie, components-small}
-use Rattle.demands.specs.Begins.{message-read}
+use Rattle.ledger.specs.Read.{message-read}
 
 pub record Fit (rs : List Row) : Type 0 where
   pub few : length rs ≤ 128

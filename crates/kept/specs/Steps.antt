@@ -146,7 +146,7 @@ module _ (T : Table) (f : Fine T) (service : ℕ) (s< : service < 16) (s : List 
   abbrev there : Place
   there = placeAt T (placeOf me)
 
-  assigned-is : assigned T service s m ≡ true → Owned T service me
+  pub assigned-is : assigned T service s m ≡ true → Owned T service me
   unfolding assigned
   assigned-is e =
       let a = was-eq _ _ _ _ (sym e) true-false in
@@ -169,7 +169,7 @@ module _ (T : Table) (f : Fine T) (service : ℕ) (s< : service < 16) (s : List 
       (λ o z. shown z (freed-shown (dialogueRow rowAbort me cause noRun 0) [] (assigned-is o) (aborted cause) (refl, refl)))
       (λ o z. shown z (not-moved T f service)))
 
-  items-readable : AllReadable (itemsOf s m)
+  pub items-readable : AllReadable (itemsOf s m)
   unfolding itemsOf
   items-readable = whether-eq AllReadable _ _ _ _ tt (components-readable s octets (m .to) (m .from))
 
@@ -177,7 +177,7 @@ module _ (T : Table) (f : Fine T) (service : ℕ) (s< : service < 16) (s : List 
   abbrev origin : List ℕ
   origin = octetsAt s (m .origin)
 
-  origin-length : length origin ≡ m .origin .length
+  pub origin-length : length origin ≡ m .origin .length
   origin-length = simp (length-take, length-drop) (omega (arith, in-s .origin .lies))
 
   origin-rest : zeros (drop (m .origin .length) (pad 4 origin)) ≡ true
@@ -196,6 +196,12 @@ module _ (T : Table) (f : Fine T) (service : ℕ) (s< : service < 16) (s : List 
       moved-as (not-moved T f service) (omega arith) (omega arith)
 
   -- BEGIN takes a place
+  pub begun-control-fine : m .fault ≡ isSound → m .tag ≡ beginTag → (p : ℕ) → p < 128 → FineControl (begunControl T service p s m)
+  begun-control-fine sound tag p h =
+      let some : 0 < m .origin .length = in-s .begins sound tag in
+      begun-fine (placeAt T p .control .turn) 3 service (m .origin .length) (pad 4 origin) (turn-small T f p h) (omega arith) s< (pad-length 4 origin)
+      (record { some = λ z. omega arith; none = λ z. absurd (true-false (sym (peers .2) ∙ z)); most = in-s .origin .short; rest = origin-rest })
+
   begin-kept : m .fault ≡ isSound → m .tag ≡ beginTag → Shown (beginReceived T service s m)
   unfolding beginReceived beginAt
   begin-kept sound tag =
@@ -204,10 +210,7 @@ module _ (T : Table) (f : Fine T) (service : ℕ) (s< : service < 16) (s : List 
       let p : ℕ = lowestFree T in
       let h : p < 128 = lowest-there T f service s< may in
       let c : Control = begunControl T service p s m in
-      let some : 0 < m .origin .length = in-s .begins sound tag in
-      let g : FineControl c =
-      begun-fine (placeAt T p .control .turn) 3 service (m .origin .length) (pad 4 origin) (turn-small T f p h) (omega arith) s< (pad-length 4 origin)
-      (record { some = λ z. omega arith; none = λ z. absurd (true-false (sym (peers .2) ∙ z)); most = in-s .origin .short; rest = origin-rest }) in
+      let g : FineControl c = begun-control-fine sound tag p h in
       let w = all-acted-stays 8 (omega arith) (itemsOf s m) items-readable c g in
       let n : allActed 8 c (itemsOf s m) .state ≡ 0 → ⊥ = λ e. omega (arith, w .state) in
       let rows : List Row = componentRows (localID p (placeAt T p .control .turn)) 8 c (itemsOf s m) in
@@ -219,7 +222,7 @@ module _ (T : Table) (f : Fine T) (service : ℕ) (s< : service < 16) (s : List 
       (λ may z. shown z (faulted-kept 4))
 
   -- CONTINUE goes on: in Sent it stores the peer's ID
-  continued-fine : Owned T service me → m .fault ≡ isSound → m .tag ≡ continueTag → FineControl (continuedControl (there .control) s m)
+  pub continued-fine : Owned T service me → m .fault ≡ isSound → m .tag ≡ continueTag → FineControl (continuedControl (there .control) s m)
       × (continuedControl (there .control) s m .state ≡ 0 → ⊥) × (continuedControl (there .control) s m .service ≡ there .control .service)
   unfolding continuedControl
   continued-fine g sound tag =

@@ -2,3 +2,5 @@ pub mod Entries
 pub mod Agrees
 pub mod Acting
 pub mod Sending
+pub mod Read
+pub mod Requests

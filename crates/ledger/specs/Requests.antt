@@ -1,0 +1,254 @@
+-- A REQUEST OR TIMER EVENT that isn't refused: the ledger goes with the table, and the message holds what the ledger says. Assumes nothing.
+use mathlib.Core.Path.{_≡_, refl, sym, ap, subst, _∙_}
+use mathlib.Core.Bool.{true, false}
+use mathlib.Core.Option.{Option, none, some}
+use mathlib.Core.List.{List, [], _∷_, _++_}
+use Prim.Native.Nat.{ℕ, _+_, _≤_, _<_}
+use native.Mathlib.Omega.{arith}
+use lib.ListN.{length, length-append}
+use lib.Seq.{length-take-le}
+use borrow.Author.Tests.{eq-eqb, ne-eqb}
+use Rattle.laws.specs.If.{ifLt, ifEq, ifB, eq, ne, yes, no, by-eq, by-b, was-eq, was-ge, was-yes, either-eq, true-false}
+use Rattle.laws.specs.Lists.{every}
+use Rattle.paper.specs.declared.Control.{Control}
+use Rattle.paper.specs.Sizes.{placeOf, turnOf, idOctets}
+use Rattle.paper.specs.Elements.{headAt, frameAt, tagEnd}
+use Rattle.paper.specs.Problems.{kindOf, noProblem}
+use Rattle.paper.specs.Components.{tagAt, componentAt, items, components}
+use Rattle.paper.specs.Writing.{Written, octetsOf, joined, beginOctets, continueOctets, endOctets, uniOctets, userAbortOctets}
+use Rattle.paper.specs.Invocations.{toIdle, passed}
+use Rattle.paper.specs.Messages.{abortTag, beginTag, continueTag, endTag, uniTag}
+use Rattle.paper.specs.Dialogues.{Place, Request, withControl, freed, rejectedBy, peerOf, waitingRejects, sentComponents, afterSending, needsPeer, ofClass4, uniRefusal, abortRefusal, abortMessage, refusal, does}
+use Rattle.paper.specs.Dialogues.Request.{Invoke, Result, Error, UserReject, Cancel, Begin, Continue, End, Prearranged, Abort, Unidirectional, Timeout, RejectTimeout, NoReaction}
+use Rattle.paper.specs.Calls.{Table, placeAt, withPlace}
+use Rattle.paper.specs.Rules.{hasPeer}
+use Rattle.paper.specs.Outcome.{spacesOf}
+use Rattle.paper.specs.Contents.{Wire, contentOf}
+use Rattle.paper.specs.Ledger.{Entry, Ledger, find, goes, passes, sends, goesOn, ends, noted, sending, aborting, saidBy, saidOf}
+use Rattle.readback.specs.Written.{Allowed, AllAllowed}
+use Rattle.readback.specs.Contents.{nothing-content, begin-fits, begin-content, continue-fits, continue-content, end-fits, end-content, uni-fits, uni-content, user-abort-fits, user-abort-content}
+use Rattle.facts.specs.Fine.{FineControl, FinePlace, Fine}
+use Rattle.kept.specs.Leaves.{whether-eq}
+use Rattle.kept.specs.Requests.{Formed, requestOf, passed-taken}
+use Rattle.ledger.specs.Entries.{find-id}
+use Rattle.ledger.specs.Agrees.{Is, Holds, Agrees, agrees-altered, agrees-same, agrees-ended}
+use Rattle.ledger.specs.Acting.{Alike, alike-self, alike-waits, idle-alike, state-alike}
+use Rattle.ledger.specs.Sending.{joined-more, allowed-append, goes-is, sent-is, sent-turn, goes-allowed, goes-few}
+
+passed-alike : (c : Control) (id class : ℕ) → Alike c (passed c id class)
+unfolding passed
+passed-alike c id class = record { turn = refl; state = refl; service = refl; peer = refl; count = refl; rejects = refl }
+
+rejected-alike : (c : Control) (id p : ℕ) → Alike c (rejectedBy c id p)
+unfolding rejectedBy
+rejected-alike c id p = whether-eq (Alike c) _ _ _ _ (alike-self c) (state-alike c id 4)
+
+-- THE PEER'S ID: "1 to 4 octets in Received and Active", where Continue isn't refused
+peer-told : (x : Place) → (needsPeer x ≡ 0 → hasPeer (x .control .state) ≡ true) × ((needsPeer x ≡ 0 → ⊥) → hasPeer (x .control .state) ≡ false)
+unfolding needsPeer hasPeer
+peer-told x = (
+  λ e. by-eq _ _ _ _ (sym e) (λ a _. sym (eq _ _ _ _ a refl)) (λ a z. let b = was-eq _ _ _ _ z (λ z. omega arith) in sym (ne _ _ _ _ a (sym (eq-eqb (x .control .state) 4 (b .0))))),
+  λ n. sym (ne _ _ _ _ (λ a. n (sym (eq _ _ _ _ a refl))) (sym (ne-eqb (x .control .state) 4 (λ b. n (sym (either-eq _ _ _ _ refl (eq _ _ _ _ b refl))))))),
+)
+
+needs-peer : (x : Place) → FinePlace x → needsPeer x ≡ 0 → (1 ≤ length (peerOf (x .control))) × (length (peerOf (x .control)) ≤ 4)
+needs-peer x f e =
+    let c : Control = x .control in
+    let n : length (peerOf c) ≡ c .peerlen = length-take-le (c .peerlen) (c .peer) (omega (arith, f .control .four, f .control .peer .most)) in
+    (omega (arith, n, f .control .peer .some (peer-told x .0 e)), omega (arith, n, f .control .peer .most))
+
+-- "Unidirectional with no component" is refused: no waiting octets are no component of class 4
+none-class4 : (c : Control) (w : List ℕ) → length w ≡ 0 → every (ofClass4 c) (components w (length w) 0) ≡ true → ⊥
+unfolding components items every ofClass4 componentAt frameAt headAt tagEnd ifLt ifEq ifB tagAt
+none-class4 c [] h e = true-false (sym e)
+none-class4 c (y ∷ w) h e = omega arith
+
+uni-some : (x : Place) → uniRefusal x ≡ 0 → length (sentComponents x) ≡ 0 → ⊥
+unfolding uniRefusal sentComponents
+uni-some x e z =
+    let a = was-eq _ _ _ _ (sym e) (λ z. omega arith) in
+    let b = was-yes _ _ _ (a .1) (λ z. omega arith) in
+    none-class4 (x .control) (x .waiting)
+    (by-b {r = sentComponents x} _ _ _ refl
+    (λ _ q. omega (arith, ap length q, length-append (x .waiting) (waitingRejects (x .control)))) (λ _ q. omega (arith, ap length q)))
+    (b .0)
+
+-- WHAT A REQUEST LEAVES AND WRITES
+pub record Done (T : Table) (L : Ledger) (d : ℕ) (r : Request) (y : Place) (m : List ℕ) : Type 0 where
+  pub agrees : Agrees (withPlace T (placeOf d) y) (noted L d r)
+  pub says : contentOf m ≡ saidOf (find (L .dialogues) d) r
+  pub fits : length m ≤ spacesOf r .space
+
+module _ (T : Table) (f : Fine T) (L : Ledger) (g : Agrees T L) (d : ℕ) (e : Entry) (there : find (L .dialogues) d ≡ some e)
+    (holds : Holds (placeAt T (placeOf d)) d e) where
+  abbrev p : ℕ
+  p = placeOf d
+
+  abbrev x : Place
+  x = placeAt T p
+
+  abbrev is : Is e x
+  is = holds .is
+
+  fine : FinePlace x
+  fine = f .each p (holds .small)
+
+  abbrev D : Request → Place → List ℕ → Type 0
+  D = Done T L d
+
+  said-is : (r : Request) → saidBy e r ≡ saidOf (find (L .dialogues) d) r
+  said-is r = ap (λ (o : Option Entry). saidOf o r) (sym there)
+
+  own-id : e .id ≡ d
+  own-id = find-id (L .dialogues) d e there
+
+  -- a component passed
+  passes-on : (v : Written) (c : Control) → Alike (x .control) c → Allowed v
+      → Agrees (withPlace T p (record { control = c; waiting = x .waiting ++ octetsOf v })) (goesOn L d (passes v))
+  passes-on v c a w =
+      agrees-altered T f L g d e _ (passes v) there holds (λ _. refl) (λ _. refl) (a .turn ∙ holds .turn) (λ z. holds .used (sym (a .state) ∙ z))
+      (record {
+        state = a .state ∙ is .state;
+        service = a .service ∙ is .service;
+        peer = a .peer ∙ is .peer;
+        passed = ap (λ (l : List ℕ). l ++ octetsOf v) (is .passed) ∙ sym (joined-more (e .passed) v);
+        allowed = allowed-append (e .passed) (v ∷ []) (is .allowed) (w, tt);
+        rejects = alike-waits a ∙ is .rejects;
+      })
+
+  -- an invocation that goes to Idle
+  goes-idle : (id : ℕ) → Agrees (withPlace T p (withControl x (toIdle (x .control) id))) L
+  goes-idle id =
+      let a = idle-alike (x .control) id in
+      agrees-same T f L g d e _ there holds (a .turn ∙ holds .turn) (λ z. holds .used (sym (a .state) ∙ z))
+      (record {
+        state = a .state ∙ is .state;
+        service = a .service ∙ is .service;
+        peer = a .peer ∙ is .peer;
+        passed = is .passed;
+        allowed = is .allowed;
+        rejects = alike-waits a ∙ is .rejects;
+      })
+
+  -- a sending
+  sends-on : (state : ℕ) → 0 < state → Agrees (withPlace T p (afterSending x state)) (goesOn L d (sends state))
+  sends-on state h =
+      let w = sent-is e x is state in
+      agrees-altered T f L g d e _ (sends state) there holds (λ _. refl) (λ _. refl) (sent-turn e x is state ∙ holds .turn) (λ z. omega (arith, w .state)) w
+
+  freed-on : Agrees (withPlace T p (freed x)) (ends L d)
+  freed-on = agrees-ended T f L g d e there holds
+
+  few : length (sentComponents x) ≤ 240
+  few = omega (arith, ap length (goes-is e x is), goes-few e x is fine)
+
+  abbrev cs : List ℕ
+  cs = sentComponents x
+
+  -- it is read as what the entry says
+  read-as : (write : List ℕ → List ℕ) (w : Wire) → contentOf (write (joined (goes e))) ≡ w → contentOf (write cs) ≡ w
+  read-as write w h = ap (λ (l : List ℕ). contentOf (write l)) (goes-is e x is) ∙ h
+
+  allowed : AllAllowed (goes e)
+  allowed = goes-allowed e x is fine
+
+  small : length (joined (goes e)) ≤ 240
+  small = goes-few e x is fine
+
+  begin-done : D Begin (afterSending x 2) (beginOctets (idOctets d) cs)
+  begin-done = record {
+    agrees = sends-on 2 (omega arith);
+    says =
+        read-as (beginOctets (idOctets d)) _ (begin-content (idOctets d) (omega arith) (omega arith) (goes e) allowed small)
+        ∙ ap (λ (i : ℕ). sending beginTag (idOctets i) [] e) (sym own-id) ∙ said-is Begin;
+    fits = begin-fits (idOctets d) (omega arith) (omega arith) cs few;
+  }
+
+  module _ (n : needsPeer x ≡ 0) where
+    abbrev peer : List ℕ
+    peer = peerOf (x .control)
+
+    abbrev told : (1 ≤ length peer) × (length peer ≤ 4)
+    told = needs-peer x fine n
+
+    continue-done : D Continue (afterSending x 4) (continueOctets (idOctets d) peer cs)
+    continue-done = record {
+      agrees = sends-on 4 (omega arith);
+      says =
+          read-as (continueOctets (idOctets d) peer) _
+          (continue-content (idOctets d) (omega arith) (omega arith) peer (told .0) (told .1) (goes e) allowed small)
+          ∙ ap (λ (i : ℕ). sending continueTag (idOctets i) peer e) (sym own-id)
+          ∙ ap (λ (l : List ℕ). sending continueTag (idOctets (e .id)) l e) (is .peer) ∙ said-is Continue;
+      fits = continue-fits (idOctets d) (omega arith) (omega arith) peer (told .0) (told .1) cs few;
+    }
+
+    end-done : D End (freed x) (endOctets peer cs)
+    end-done = record {
+      agrees = freed-on;
+      says =
+          read-as (endOctets peer) _ (end-content peer (told .0) (told .1) (goes e) allowed small)
+          ∙ ap (λ (l : List ℕ). sending endTag [] l e) (is .peer) ∙ said-is End;
+      fits = end-fits peer (told .0) (told .1) cs few;
+    }
+
+  uni-done : uniRefusal x ≡ 0 → D Unidirectional (freed x) (uniOctets cs)
+  uni-done n = record {
+    agrees = freed-on;
+    says =
+        read-as uniOctets _ (uni-content (goes e) allowed (λ z. uni-some x n (ap length (goes-is e x is) ∙ z)) small)
+        ∙ said-is Unidirectional;
+    fits = uni-fits cs few;
+  }
+
+  -- "a whole 6B element or none"; "writes a message only in Received and Active"
+  abort-done : (portion : List ℕ) → abortRefusal portion ≡ 0 → D (Abort portion) (freed x) (abortMessage x portion)
+  unfolding abortRefusal abortMessage
+  abort-done portion r =
+      let a = was-yes _ _ _ (sym r) (λ z. omega arith) in
+      let b = was-ge _ _ _ _ (a .1) (λ z. omega arith) in
+      by-eq {r = abortMessage x portion} _ _ _ _ refl
+      (λ n z. subst (D (Abort portion) (freed x)) (sym z) (record {
+        agrees = freed-on;
+        says =
+            user-abort-content (peer n) (told n .0) (told n .1) portion (a .0) (b .0)
+            ∙ ap (λ (l : List ℕ). aborting l portion noProblem) (is .peer)
+            ∙ yes _ _ _ (ap hasPeer (sym (is .state)) ∙ peer-told x .0 n) refl ∙ said-is (Abort portion);
+        fits = user-abort-fits (peer n) (told n .0) (told n .1) portion (b .0);
+      }))
+      (λ n z. subst (D (Abort portion) (freed x)) (sym z) (record {
+        agrees = freed-on;
+        says = nothing-content ∙ no _ _ _ (ap hasPeer (sym (is .state)) ∙ peer-told x .1 n) refl ∙ said-is (Abort portion);
+        fits = omega arith;
+      }))
+
+  -- no message
+  quiet : (r : Request) (y : Place) → Wire.Nothing ≡ saidBy e r → Agrees (withPlace T p y) (noted L d r) → D r y []
+  quiet r y s a = record { agrees = a; says = nothing-content ∙ s ∙ said-is r; fits = omega arith }
+
+  passing : (class : ℕ) (v : Written) → Formed (requestOf class v) → refusal x (requestOf class v) ≡ 0 → Allowed v
+  passing class v w n = passed-taken x class v w n .0
+
+  pub does-done : (r : Request) → Formed r → refusal x r ≡ 0 → D r (does d x r .place) (does d x r .message)
+  unfolding does refusal octetsOf
+  does-done (Invoke id linked class op par) w n =
+      let v : Written = Written.Invoke id linked op par in
+      quiet (Invoke id linked class op par) _ refl (passes-on v (passed (x .control) id class) (passed-alike (x .control) id class) (passing class v w n))
+  does-done (Result tag id op par) w n =
+      let v : Written = Written.Result tag id op par in
+      quiet (Result tag id op par) _ refl (passes-on v (x .control) (alike-self (x .control)) (passing 0 v w n))
+  does-done (Error id err par) w n =
+      let v : Written = Written.Error id err par in
+      quiet (Error id err par) _ refl (passes-on v (x .control) (alike-self (x .control)) (passing 0 v w n))
+  does-done (UserReject id q) w n =
+      let v : Written = Written.Reject id q in
+      quiet (UserReject id q) _ refl (passes-on v (rejectedBy (x .control) id q) (rejected-alike (x .control) id q) (passing 0 v w n))
+  does-done (Cancel id) w n = quiet (Cancel id) _ refl (goes-idle id)
+  does-done Begin w n = begin-done
+  does-done Continue w n = continue-done n
+  does-done End w n = end-done n
+  does-done Prearranged w n = quiet Prearranged _ refl freed-on
+  does-done (Abort portion) w n = abort-done portion n
+  does-done Unidirectional w n = uni-done n
+  does-done (Timeout id) w n = quiet (Timeout id) _ refl (goes-idle id)
+  does-done (RejectTimeout id) w n = quiet (RejectTimeout id) _ refl (goes-idle id)
+  does-done NoReaction w n = quiet NoReaction _ refl freed-on
