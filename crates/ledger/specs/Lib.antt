@@ -4,3 +4,4 @@ pub mod Acting
 pub mod Sending
 pub mod Read
 pub mod Requests
+pub mod Received
