@@ -20,7 +20,7 @@ abbrev pub share : List ℕ → ℕ → ℕ
 share l k = getD l k 0
 
 -- A FRESH TABLE, of shares that answer 13 isn't given to, is fine and holds nothing
-none-held : (n k : ℕ) → held (replicate n (emptyPlace 0)) k ≡ 0
+pub none-held : (n k : ℕ) → held (replicate n (emptyPlace 0)) k ≡ 0
 unfolding held
 none-held zero k = refl
 none-held (suc n) k = omega (arith, of-free (emptyPlace 0) k refl, none-held n k)

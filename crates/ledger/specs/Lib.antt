@@ -5,3 +5,4 @@ pub mod Sending
 pub mod Read
 pub mod Requests
 pub mod Received
+pub mod Steps
