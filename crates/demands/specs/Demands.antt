@@ -29,9 +29,6 @@ use Rattle.shares.specs.Share.{Shares, Sound, below-given, refused-at-limit, re
 use Rattle.kept.specs.Shared.{shares as fine-shares, sound as fine-sound}
 use Rattle.kept.specs.Fresh.{fresh-fine, fresh-none}
 use Rattle.demands.specs.Stands.{Stands, not-refused}
-use Rattle.demands.specs.Put.{putIn, ReadBack}
-use Rattle.demands.specs.Answered.{outcome-sent}
-use Rattle.demands.specs.Passed.{waitingOf, Passed, outcome-passed}
 use Rattle.demands.specs.Begins.{begin-step}
 use Rattle.demands.specs.History.{Made, gave, after, begunOf, endedOf, AllFormed, Reached, history}
 
@@ -59,23 +56,6 @@ same-outcome l c = one
 -- DEMAND 2, the table: what a call leaves of a table that keeps the rules keeps them, so that a table handed on is never refused by 2
 pub never-broken : (l : Lent) (c : Call) → WellFormed c → Ready (l .table) → rules (outcome l c .lent .table) ≡ true
 never-broken l c w r = ready-rules (outcome l c .lent .table) (outcome-ready l c w r)
-
--- DEMAND 2, the messages: "each message written by any call is read back as the components and IDs put in", whatever octets were
--- lent as a table. It stands at the start of the message space; `messageOf`, by which a received message is read, reads it as what
--- the call puts in (Put.antt), and it is none exactly where that is none
-pub read-back : (l : Lent) (c : Call) → Octets (l .table) → outcome l c .answer ≡ 0
-    → ReadBack (take (outcome l c .length) (outcome l c .lent .space)) (putIn (view (l .table)) c)
-read-back l c o = outcome-sent l c o .1
-
--- it has at most 272 octets, and a call that takes no message space writes none
-pub message-fits : (l : Lent) (c : Call) → Octets (l .table) → outcome l c .length ≤ spacesFor c .space
-message-fits l c o = outcome-sent l c o .0
-
--- a component passed waits after those that waited, and is listed as what was put in
-pub passed-read-back : (l : Lent) (service dialogue class : ℕ) (v : Written) → Formed (requestOf class v) → Octets (l .table)
-    → outcome l (OnDialogue service dialogue (requestOf class v)) .answer ≡ 0
-    → Passed (waitingOf (l .table) dialogue) v (waitingOf (outcome l (OnDialogue service dialogue (requestOf class v)) .lent .table) dialogue)
-passed-read-back = outcome-passed
 
 -- an open by a service, as a host makes it
 abbrev pub asks : ℕ → Made

@@ -192,12 +192,12 @@ AllFormed [] = Unit
 AllFormed (m ∷ ms) = WellFormed (m .call) × AllFormed ms
 
 -- WHERE A HISTORY LEADS: a table that keeps the rules, with the same shares; begun less ended is what it holds
-pub record Reached (T : Table) (ms : List Made) : Type 0 where
+pub record Reached (t : List ℕ) (T : Table) (ms : List Made) : Type 0 where
   pub to : Table
   pub fine : Fine to
-  pub table : after (encode T) ms ≡ encode to
+  pub table : after t ms ≡ encode to
   pub shares : (to .guarantees ≡ T .guarantees) × (to .limits ≡ T .limits)
-  pub counts : (s : ℕ) → begunOf s (encode T) ms + held (T .places) s ≡ endedOf s (encode T) ms + held (to .places) s
+  pub counts : (s : ℕ) → begunOf s t ms + held (T .places) s ≡ endedOf s t ms + held (to .places) s
 
 pub next : (T : Table) → Fine T → (m : Made) → WellFormed (m .call) → Next T m
 unfolding outcome
@@ -255,11 +255,11 @@ next T f m o = stand (standing l (spacesFor (m .call))) refl
     stand (suc n) e = by (refusedBy (suc n) l) (ap (λ (k : ℕ). shown k l (step (view (encode T)) (m .call))) e) T f refl (refl, refl) (nothing n)
 
 -- ANY LIST OF CALLS, wrong ones among them
-pub history : (T : Table) → Fine T → (ms : List Made) → AllFormed ms → Reached T ms
+pub history : (T : Table) → Fine T → (ms : List Made) → AllFormed ms → Reached (encode T) T ms
 history T f [] o = record { to = T; fine = f; table = refl; shares = (refl, refl); counts = λ s. refl }
 history T f (m ∷ ms) o = on (next T f m (o .0)) (history (next T f m (o .0) .to) (next T f m (o .0) .fine) ms (o .1))
   where
-    on : (n : Next T m) → Reached (n .to) ms → Reached T (m ∷ ms)
+    on : (n : Next T m) → Reached (encode (n .to)) (n .to) ms → Reached (encode T) T (m ∷ ms)
     on n r = record {
       to = r .to;
       fine = r .fine;

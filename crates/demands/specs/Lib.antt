@@ -6,9 +6,6 @@ pub mod Tails
 pub mod Applies
 pub mod Lowest
 pub mod Begins
-pub mod Put
-pub mod Sent
-pub mod Answered
-pub mod Passed
 pub mod History
+pub mod Booked
 pub mod Demands

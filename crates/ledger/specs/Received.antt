@@ -104,7 +104,7 @@ module _ (T : Table) (f : Fine T) (L : Ledger) (g : Agrees T L) (service : ℕ) 
     pub begun : there .control .state ≡ 1 → ⊥
     pub addressed : addressee L service s m ≡ some e
 
-  addressed-some : assigned T service s m ≡ true → (P : Type 0) → ((e : Entry) → Assigned e → P) → P
+  pub addressed-some : assigned T service s m ≡ true → (P : Type 0) → ((e : Entry) → Assigned e → P) → P
   unfolding assigned addressee forService
   addressed-some a P k =
       let w = was-eq _ _ _ _ (sym a) true-false in
@@ -123,7 +123,7 @@ module _ (T : Table) (f : Fine T) (L : Ledger) (g : Agrees T L) (service : ℕ) 
             ∙ ap (forService service) (sym q)));
       }))
 
-  addressed-none : assigned T service s m ≡ false → addressee L service s m ≡ none
+  pub addressed-none : assigned T service s m ≡ false → addressee L service s m ≡ none
   unfolding addressee forService assigned owns isDialogue isFree
   addressed-none a = sym (by-eq {A = ℕ} (m .destination .length) 4 0 0 refl (λ n _. eq _ _ _ _ n (sym (at (find (L .dialogues) me) refl (g .each me) n))) (λ n _. ne _ _ _ _ n refl))
     where

@@ -1,0 +1,166 @@
+-- THE LEDGER OF A HISTORY (demand 2), played over what a host sees of its calls, and that it agrees with the table. Assumes nothing.
+use mathlib.Core.Path.{_≡_, refl, sym, ap, subst, _∙_}
+use mathlib.Core.List.{List, [], _∷_, _++_}
+use Prim.Native.Nat.{ℕ, zero, suc, _+_, _≤_}
+use native.Mathlib.Omega.{arith}
+use lib.ListN.{length, take, drop}
+use lib.Seq.{sets, sets-eq, take-at}
+use Rattle.laws.specs.If.{eq, ne, by-eq}
+use Rattle.paper.specs.declared.Row.{Row}
+use Rattle.paper.specs.Dialogues.{Request}
+use Rattle.paper.specs.Dialogues.Request.{Invoke, Result, Error, UserReject, Cancel, Begin, Continue, End, Prearranged, Abort, Unidirectional, Timeout, RejectTimeout, NoReaction}
+use Rattle.paper.specs.Calls.{Table, Call, Out, step}
+use Rattle.paper.specs.Calls.Call.{Open, OnDialogue, Receive}
+use Rattle.paper.specs.Layout.{encode, view}
+use Rattle.paper.specs.Contents.{Wire, contentOf}
+use Rattle.paper.specs.Ledger.{Ledger, Told, noted, shown as shownBy, playedBy, played, said}
+use Rattle.paper.specs.Outcome.{Lent, Outcome, spacesFor, standing, given, shown, refusedBy, outcome}
+use Rattle.readback.specs.Contents.{nothing-content}
+use Rattle.facts.specs.Fine.{Fine}
+use Rattle.facts.specs.Whole.{view-encode}
+use Rattle.kept.specs.Steps.{WellFormed, step-kept}
+use Rattle.kept.specs.Leaves.{whether-eq}
+use Rattle.ledger.specs.Agrees.{endedIn, Agrees}
+use Rattle.ledger.specs.Steps.{Goes, step-goes}
+use Rattle.demands.specs.Stands.{stands}
+use Rattle.demands.specs.History.{Made, gave, after, AllFormed, told, told-step}
+
+-- over the calls, each with what it told
+abbrev pub ledgerOf : Ledger → List ℕ → List Made → Ledger
+ledgerOf L t [] = L
+ledgerOf L t (m ∷ ms) = ledgerOf (played L (m .call) (told (gave t m))) (gave t m .lent .table) ms
+
+-- THE MESSAGE that a call wrote: it stands at the start of the message space
+abbrev pub messageOut : Outcome → List ℕ
+messageOut o = take (o .length) (o .lent .space)
+
+-- what the ledger says of it, by the answer: a refusal writes nothing
+abbrev pub heard : Ledger → Call → ℕ → Wire
+heard L c zero = said L c
+heard L c (suc n) = Wire.Nothing
+
+-- ONE CALL
+pub record Booked (T : Table) (L : Ledger) (m : Made) (o : Outcome) : Type 0 where
+  pub to : Table
+  pub fine : Fine to
+  pub table : o .lent .table ≡ encode to
+  pub agrees : Agrees to (played L (m .call) (told o))
+  pub says : contentOf (messageOut o) ≡ heard L (m .call) (o .answer)
+
+-- what is written at the start of a space is read there
+first-written : (l m : List ℕ) → length m ≤ length l → take (length m) (sets l 0 m) ≡ m
+first-written l m h = ap (take (length m)) (sets-eq m l 0 (omega arith)) ∙ take-at m (drop (0 + length m) l) (length m) refl
+
+module _ (T : Table) (f : Fine T) (L : Ledger) (g : Agrees T L) (m : Made) (w : WellFormed (m .call)) where
+  abbrev c : Call
+  c = m .call
+
+  abbrev l : Lent
+  l = record { table = encode T; rows = m .rows; space = m .space }
+
+  refused : (n : ℕ) → Booked T L m (refusedBy (suc n) l)
+  unfolding played
+  refused n = record { to = T; fine = f; table = refl; agrees = subst (Agrees T) (ne (suc n) 0 _ _ (λ e. omega arith) refl) g; says = nothing-content }
+
+  done : standing l (spacesFor c) ≡ 0 → step T c .answer ≡ 0 → Booked T L m (given l (step T c))
+  unfolding played
+  done st z =
+      let h = step-goes T f L g c w z in
+      let o : Out = step T c in
+      let n = first-written (m .space) (o .message) (omega (arith, h .fits, stands l (spacesFor c) st .space)) in
+      record {
+        to = o .table;
+        fine = step-kept T f c w;
+        table = refl;
+        agrees = subst (Agrees (o .table)) (ap (playedBy L c) (sym (told-step T f l c w st z)) ∙ eq 0 0 _ _ refl refl) (h .agrees);
+        says = ap contentOf n ∙ h .says;
+      }
+
+  pub booked : Booked T L m (gave (encode T) m)
+  unfolding outcome
+  booked = stand (standing l (spacesFor c)) refl
+    where
+      stand : (n : ℕ) → standing l (spacesFor c) ≡ n → Booked T L m (shown n l (step (view (encode T)) c))
+      stand (suc n) e = refused n
+      stand zero e =
+          subst (λ (U : Table). Booked T L m (shown 0 l (step U c))) (sym (view-encode T f))
+          (by-eq {r = shown 0 l (step T c)} _ _ _ _ refl (λ a z. subst (Booked T L m) (sym z) (done e a)) (λ a z. subst (Booked T L m) (sym z) (other (step T c .answer) a)))
+        where
+          other : (n : ℕ) → (n ≡ 0 → ⊥) → Booked T L m (refusedBy n l)
+          other zero a = absurd (a refl)
+          other (suc n) a = refused n
+
+-- A HISTORY: the table it leads to, and the ledger, agree
+pub record Kept (t : List ℕ) (L : Ledger) (ms : List Made) : Type 0 where
+  pub to : Table
+  pub fine : Fine to
+  pub table : after t ms ≡ encode to
+  pub agrees : Agrees to (ledgerOf L t ms)
+
+pub kept : (T : Table) → Fine T → (L : Ledger) → Agrees T L → (ms : List Made) → AllFormed ms → Kept (encode T) L ms
+kept T f L g [] o = record { to = T; fine = f; table = refl; agrees = g }
+kept T f L g (m ∷ ms) o = on (booked T f L g m (o .0)) (kept _ (booked T f L g m (o .0) .fine) _ (booked T f L g m (o .0) .agrees) ms (o .1))
+  where
+    on : (b : Booked T L m (gave (encode T) m)) → Kept (encode (b .to)) (played L (m .call) (told (gave (encode T) m))) ms → Kept (encode T) L (m ∷ ms)
+    on b k = record {
+      to = k .to;
+      fine = k .fine;
+      table = ap (λ (t : List ℕ). after t ms) (b .table) ∙ k .table;
+      agrees = subst (λ (t : List ℕ). Agrees (k .to) (ledgerOf (played L (m .call) (told (gave (encode T) m))) t ms)) (sym (b .table)) (k .agrees);
+    }
+
+-- THE DIALOGUES THAT ENDED stay ended: how many had a place only grows
+more-ended : (p d : ℕ) (l : List ℕ) → endedIn p l ≤ endedIn p (d ∷ l)
+unfolding endedIn
+more-ended p d l = omega arith
+
+played-ended : (p : ℕ) (L : Ledger) (c : Call) (t : Told) → endedIn p (L .ended) ≤ endedIn p (played L c t .ended)
+unfolding played shownBy
+played-ended p L c t = whether-eq Grows _ _ _ _ (by c) (omega arith)
+  where
+    Grows : Ledger → Type 0
+    Grows M = endedIn p (L .ended) ≤ endedIn p (M .ended)
+
+    noted-grows : (d : ℕ) (r : Request) → Grows (noted L d r)
+    noted-grows d (Invoke id linked class op par) = omega arith
+    noted-grows d (Result tag id op par) = omega arith
+    noted-grows d (Error id err par) = omega arith
+    noted-grows d (UserReject id q) = omega arith
+    noted-grows d (Cancel id) = omega arith
+    noted-grows d Begin = omega arith
+    noted-grows d Continue = omega arith
+    noted-grows d End = more-ended p d (L .ended)
+    noted-grows d Prearranged = more-ended p d (L .ended)
+    noted-grows d (Abort portion) = more-ended p d (L .ended)
+    noted-grows d Unidirectional = more-ended p d (L .ended)
+    noted-grows d (Timeout id) = omega arith
+    noted-grows d (RejectTimeout id) = omega arith
+    noted-grows d NoReaction = more-ended p d (L .ended)
+
+    by : (c : Call) → Grows (playedBy L c t)
+    by (Open service) = omega arith
+    by (OnDialogue service d r) = noted-grows d r
+    by (Receive service s) = shown-grows service s (t .rows)
+      where
+        shown-grows : (service : ℕ) (s : List ℕ) (rows : List Row) → Grows (shownBy L service s rows)
+        shown-grows service s [] = omega arith
+        shown-grows service s (r ∷ rows) =
+            whether-eq Grows _ _ _ _ (omega arith) (whether-eq Grows _ _ _ _ (omega arith) (whether-eq Grows _ _ _ _ (more-ended p (r .dialogue) (L .ended)) (omega arith)))
+
+pub ledger-ended : (p : ℕ) (L : Ledger) (t : List ℕ) (ms : List Made) → endedIn p (L .ended) ≤ endedIn p (ledgerOf L t ms .ended)
+ledger-ended p L t [] = omega arith
+ledger-ended p L t (m ∷ ms) =
+    omega (arith, played-ended p L (m .call) (told (gave t m)), ledger-ended p (played L (m .call) (told (gave t m))) (gave t m .lent .table) ms)
+
+-- one history after another
+pub after-append : (t : List ℕ) (ms ns : List Made) → after t (ms ++ ns) ≡ after (after t ms) ns
+after-append t [] ns = refl
+after-append t (m ∷ ms) ns = after-append (gave t m .lent .table) ms ns
+
+pub ledger-append : (L : Ledger) (t : List ℕ) (ms ns : List Made) → ledgerOf L t (ms ++ ns) ≡ ledgerOf (ledgerOf L t ms) (after t ms) ns
+ledger-append L t [] ns = refl
+ledger-append L t (m ∷ ms) ns = ledger-append (played L (m .call) (told (gave t m))) (gave t m .lent .table) ms ns
+
+pub formed-append : (ms ns : List Made) → AllFormed ms → AllFormed ns → AllFormed (ms ++ ns)
+formed-append [] ns a b = b
+formed-append (m ∷ ms) ns a b = (a .0, formed-append ms ns (a .1) b)
