@@ -6,21 +6,16 @@ use native.Mathlib.Omega.{arith}
 use lib.ListN.{length, take, drop}
 use lib.Seq.{sets, sets-eq, take-at}
 use Rattle.laws.specs.If.{eq, ne, by-eq}
-use Rattle.paper.specs.declared.Row.{Row}
-use Rattle.paper.specs.Dialogues.{Request}
-use Rattle.paper.specs.Dialogues.Request.{Invoke, Result, Error, UserReject, Cancel, Begin, Continue, End, Prearranged, Abort, Unidirectional, Timeout, RejectTimeout, NoReaction}
 use Rattle.paper.specs.Calls.{Table, Call, Out, step}
-use Rattle.paper.specs.Calls.Call.{Open, OnDialogue, Receive}
 use Rattle.paper.specs.Layout.{encode, view}
 use Rattle.paper.specs.Contents.{Wire, contentOf}
-use Rattle.paper.specs.Ledger.{Ledger, Told, noted, shown as shownBy, playedBy, played, said}
+use Rattle.paper.specs.Ledger.{Ledger, playedBy, played, said}
 use Rattle.paper.specs.Outcome.{Lent, Outcome, spacesFor, standing, given, shown, refusedBy, outcome}
 use Rattle.readback.specs.Contents.{nothing-content}
 use Rattle.facts.specs.Fine.{Fine}
 use Rattle.facts.specs.Whole.{view-encode}
 use Rattle.kept.specs.Steps.{WellFormed, step-kept}
-use Rattle.kept.specs.Leaves.{whether-eq}
-use Rattle.ledger.specs.Agrees.{endedIn, Agrees}
+use Rattle.ledger.specs.Agrees.{Agrees}
 use Rattle.ledger.specs.Steps.{Goes, step-goes}
 use Rattle.demands.specs.Stands.{stands}
 use Rattle.demands.specs.History.{Made, gave, after, AllFormed, told, told-step}
@@ -46,9 +41,10 @@ pub record Booked (T : Table) (L : Ledger) (m : Made) (o : Outcome) : Type 0 whe
   pub table : o .lent .table ≡ encode to
   pub agrees : Agrees to (played L (m .call) (told o))
   pub says : contentOf (messageOut o) ≡ heard L (m .call) (o .answer)
+  pub fits : o .length ≤ spacesFor (m .call) .space
 
 -- what is written at the start of a space is read there
-first-written : (l m : List ℕ) → length m ≤ length l → take (length m) (sets l 0 m) ≡ m
+pub first-written : (l m : List ℕ) → length m ≤ length l → take (length m) (sets l 0 m) ≡ m
 first-written l m h = ap (take (length m)) (sets-eq m l 0 (omega arith)) ∙ take-at m (drop (0 + length m) l) (length m) refl
 
 module _ (T : Table) (f : Fine T) (L : Ledger) (g : Agrees T L) (m : Made) (w : WellFormed (m .call)) where
@@ -60,7 +56,7 @@ module _ (T : Table) (f : Fine T) (L : Ledger) (g : Agrees T L) (m : Made) (w : 
 
   refused : (n : ℕ) → Booked T L m (refusedBy (suc n) l)
   unfolding played
-  refused n = record { to = T; fine = f; table = refl; agrees = subst (Agrees T) (ne (suc n) 0 _ _ (λ e. omega arith) refl) g; says = nothing-content }
+  refused n = record { to = T; fine = f; table = refl; agrees = subst (Agrees T) (ne (suc n) 0 _ _ (λ e. omega arith) refl) g; says = nothing-content; fits = omega arith }
 
   done : standing l (spacesFor c) ≡ 0 → step T c .answer ≡ 0 → Booked T L m (given l (step T c))
   unfolding played
@@ -74,6 +70,7 @@ module _ (T : Table) (f : Fine T) (L : Ledger) (g : Agrees T L) (m : Made) (w : 
         table = refl;
         agrees = subst (Agrees (o .table)) (ap (playedBy L c) (sym (told-step T f l c w st z)) ∙ eq 0 0 _ _ refl refl) (h .agrees);
         says = ap contentOf n ∙ h .says;
+        fits = h .fits;
       }
 
   pub booked : Booked T L m (gave (encode T) m)
@@ -109,58 +106,7 @@ kept T f L g (m ∷ ms) o = on (booked T f L g m (o .0)) (kept _ (booked T f L g
       agrees = subst (λ (t : List ℕ). Agrees (k .to) (ledgerOf (played L (m .call) (told (gave (encode T) m))) t ms)) (sym (b .table)) (k .agrees);
     }
 
--- THE DIALOGUES THAT ENDED stay ended: how many had a place only grows
-more-ended : (p d : ℕ) (l : List ℕ) → endedIn p l ≤ endedIn p (d ∷ l)
-unfolding endedIn
-more-ended p d l = omega arith
-
-played-ended : (p : ℕ) (L : Ledger) (c : Call) (t : Told) → endedIn p (L .ended) ≤ endedIn p (played L c t .ended)
-unfolding played shownBy
-played-ended p L c t = whether-eq Grows _ _ _ _ (by c) (omega arith)
-  where
-    Grows : Ledger → Type 0
-    Grows M = endedIn p (L .ended) ≤ endedIn p (M .ended)
-
-    noted-grows : (d : ℕ) (r : Request) → Grows (noted L d r)
-    noted-grows d (Invoke id linked class op par) = omega arith
-    noted-grows d (Result tag id op par) = omega arith
-    noted-grows d (Error id err par) = omega arith
-    noted-grows d (UserReject id q) = omega arith
-    noted-grows d (Cancel id) = omega arith
-    noted-grows d Begin = omega arith
-    noted-grows d Continue = omega arith
-    noted-grows d End = more-ended p d (L .ended)
-    noted-grows d Prearranged = more-ended p d (L .ended)
-    noted-grows d (Abort portion) = more-ended p d (L .ended)
-    noted-grows d Unidirectional = more-ended p d (L .ended)
-    noted-grows d (Timeout id) = omega arith
-    noted-grows d (RejectTimeout id) = omega arith
-    noted-grows d NoReaction = more-ended p d (L .ended)
-
-    by : (c : Call) → Grows (playedBy L c t)
-    by (Open service) = omega arith
-    by (OnDialogue service d r) = noted-grows d r
-    by (Receive service s) = shown-grows service s (t .rows)
-      where
-        shown-grows : (service : ℕ) (s : List ℕ) (rows : List Row) → Grows (shownBy L service s rows)
-        shown-grows service s [] = omega arith
-        shown-grows service s (r ∷ rows) =
-            whether-eq Grows _ _ _ _ (omega arith) (whether-eq Grows _ _ _ _ (omega arith) (whether-eq Grows _ _ _ _ (more-ended p (r .dialogue) (L .ended)) (omega arith)))
-
-pub ledger-ended : (p : ℕ) (L : Ledger) (t : List ℕ) (ms : List Made) → endedIn p (L .ended) ≤ endedIn p (ledgerOf L t ms .ended)
-ledger-ended p L t [] = omega arith
-ledger-ended p L t (m ∷ ms) =
-    omega (arith, played-ended p L (m .call) (told (gave t m)), ledger-ended p (played L (m .call) (told (gave t m))) (gave t m .lent .table) ms)
-
 -- one history after another
-pub after-append : (t : List ℕ) (ms ns : List Made) → after t (ms ++ ns) ≡ after (after t ms) ns
-after-append t [] ns = refl
-after-append t (m ∷ ms) ns = after-append (gave t m .lent .table) ms ns
-
-pub ledger-append : (L : Ledger) (t : List ℕ) (ms ns : List Made) → ledgerOf L t (ms ++ ns) ≡ ledgerOf (ledgerOf L t ms) (after t ms) ns
-ledger-append L t [] ns = refl
-ledger-append L t (m ∷ ms) ns = ledger-append (played L (m .call) (told (gave t m))) (gave t m .lent .table) ms ns
-
 pub formed-append : (ms ns : List Made) → AllFormed ms → AllFormed ns → AllFormed (ms ++ ns)
 formed-append [] ns a b = b
 formed-append (m ∷ ms) ns a b = (a .0, formed-append ms ns (a .1) b)

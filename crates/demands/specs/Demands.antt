@@ -1,36 +1,47 @@
 -- THE DEMANDS, on the outcomes that the contracts of the calls name. Assumes nothing.
 -- A host's history of C calls is a list of `Made`: the call with its arguments, and the row and message spaces lent with it; each
--- is made on the octets that the call before left (`after`). What a call gives is `outcome`, which its contract names; nothing
--- here speaks of another engine. Left to the host: that it hands the table on unaltered, and that spaces don't overlap.
+-- is made on the octets that the call before left (`after`), the first on what a tcap_fresh answered 0 left. What a call gives is
+-- `outcome`, which its contract names; nothing here speaks of another engine. Left to the host: that it hands the table on unaltered,
+-- and that spaces don't overlap. That the lowest number is given, and what is left as it was, stands in Lowest.antt and Tails.antt.
 use mathlib.Core.Path.{_≡_, refl, sym, ap, subst, _∙_}
 use mathlib.Core.Bool.{Bool, true, false}
-use mathlib.Core.List.{List, []}
+use mathlib.Core.Option.{Option, none, some}
+use mathlib.Core.List.{List, [], _∷_, _++_}
 use mathlib.Core.Logic.{_⊎_, inl, inr, _↔_}
-use Prim.Native.Nat.{ℕ, zero, suc, _+_, _-_, _≤_, _<_}
+use Prim.Native.Nat.{ℕ, zero, suc, _+_, _-_, _%_, _≤_, _<_}
 use native.Mathlib.Omega.{arith}
-use lib.ListN.{length, getD, take}
-use Rattle.laws.specs.If.{ifEq, ifB, lt, eq, ge, yes, no, by-eq}
-use Rattle.paper.specs.Sizes.{placesInAll, services}
-use Rattle.paper.specs.Shares.{gives, others, free, sharesFit}
-use Rattle.paper.specs.Calls.{Table, Call, Out, guaranteeOf, limitOf, held, mayBegin, opened, openedAt, lowestFree, refuse, shows, octetsAt, beginAt, step, freshTable}
-use Rattle.paper.specs.Messages.{messageOf, isSound, beginTag}
-use Rattle.paper.specs.Writing.{causeAbortOctets, Written}
+use lib.ListN.{length, getD, length-take, length-drop}
+use Rattle.laws.specs.If.{ifB, eq, ne, yes, no, by-eq}
+use Rattle.paper.specs.declared.Row.{Row}
+use Rattle.paper.specs.Sizes.{placesInAll, services, placeOf, turnOf, idOctets}
+use Rattle.paper.specs.Shares.{gives, others, free}
+use Rattle.paper.specs.Messages.{messageOf, isSound, uniTag, beginTag}
+use Rattle.paper.specs.Rows.{rowBegin}
+use Rattle.paper.specs.Writing.{causeAbortOctets}
+use Rattle.paper.specs.Calls.{Table, Call, Out, placeAt, guaranteeOf, limitOf, held, mayBegin, lowestFree, shows, octetsAt, numberAt, beginAt, step, freshTable}
 use Rattle.paper.specs.Calls.Call.{Open, OnDialogue, Receive}
 use Rattle.paper.specs.Layout.{encode, view}
-use Rattle.paper.specs.Outcome.{Lent, Outcome, Gives, spacesFor, standing, given, shown, refusedBy, outcome, noSpace, one}
-use Rattle.facts.specs.Fine.{Octets, Fine}
-use Rattle.facts.specs.Whole.{view-encode}
-use Rattle.facts.specs.Ready.{Ready, encode-stands}
 use Rattle.paper.specs.Rules.{rules}
-use Rattle.kept.specs.Requests.{Formed, requestOf}
+use Rattle.paper.specs.Outcome.{Lent, Outcome, Gives, spacesFor, standing, given, shown, refusedBy, outcome, freshOutcome, one}
+use Rattle.paper.specs.Contents.{Wire, contentOf}
+use Rattle.paper.specs.Ledger.{Entry, Ledger, Told, newLedger, find, forService, aborting}
+use Rattle.readback.specs.Contents.{nothing-content, cause-abort-fits, cause-abort-content}
+use Rattle.messages.specs.Bounds.{message-in}
+use Rattle.facts.specs.Fine.{Octets}
+use Rattle.facts.specs.Ready.{Ready}
 use Rattle.kept.specs.Steps.{WellFormed}
 use Rattle.kept.specs.Tables.{outcome-ready, ready-rules}
 use Rattle.shares.specs.Share.{Shares, Sound, below-given, refused-at-limit, refused-full, refused-why}
 use Rattle.kept.specs.Shared.{shares as fine-shares, sound as fine-sound}
 use Rattle.kept.specs.Fresh.{fresh-fine, fresh-none}
+use Rattle.ledger.specs.Agrees.{Holds, At, endedIn, Agrees}
+use Rattle.ledger.specs.Steps.{fresh-agrees}
+use Rattle.ledger.specs.Homes.{Comes, rowFor, id-back, number-is, addressee-is, comes-home, comes-nowhere}
 use Rattle.demands.specs.Stands.{Stands, not-refused}
 use Rattle.demands.specs.Begins.{begin-step}
-use Rattle.demands.specs.History.{Made, gave, after, begunOf, endedOf, AllFormed, Reached, history}
+use Rattle.demands.specs.History.{Made, gave, after, begunOf, endedOf, AllFormed, Reached, history, told, told-step}
+use Rattle.demands.specs.Booked.{ledgerOf, messageOut, heard, first-written, booked, Kept, kept, formed-append}
+use Rattle.demands.specs.Replies.{begun-told, asks, open-answer, stands-for, receive-answers, received-is}
 
 -- DEMAND 1: "a refusal changes no octet of table, rows or message space", for all octets, numbers and spaces lent
 pub refusal-changes-nothing : (l : Lent) (c : Call) → (outcome l c .answer ≡ 0 → ⊥) → outcome l c .lent ≡ l
@@ -57,71 +68,147 @@ same-outcome l c = one
 pub never-broken : (l : Lent) (c : Call) → WellFormed c → Ready (l .table) → rules (outcome l c .lent .table) ≡ true
 never-broken l c w r = ready-rules (outcome l c .lent .table) (outcome-ready l c w r)
 
--- an open by a service, as a host makes it
-abbrev pub asks : ℕ → Made
-asks s = record { call = Open s; rows = []; space = [] }
+-- the kind of the first row, 0 where there is none
+abbrev pub rowKind : List Row → ℕ
+rowKind [] = 0
+rowKind (r ∷ rows) = r .kind
 
--- what an open is answered on a table that keeps the rules: the share rule
-open-answer : (T : Table) → Fine T → (s : ℕ) → s < services → gave (encode T) (asks s) .answer ≡ ifB (mayBegin T s) 0 7
-unfolding outcome standing step opened
-open-answer T f s h =
-    ap (λ (n : ℕ). shown n l (step (view (encode T)) (Open s)) .answer) stands ∙ ap (λ (U : Table). shown 0 l (step U (Open s)) .answer) (view-encode T f) ∙ by (mayBegin T s) refl
-  where
-    l : Lent
-    l = record { table = encode T; rows = []; space = [] }
+-- A HISTORY: a tcap_fresh that is answered 0; then any list of calls, wrong ones among them, that hands the table on unaltered
+module _ (t g l : List ℕ) (fresh : freshOutcome t g l .answer ≡ 0) (ms : List Made) (o : AllFormed ms) where
+  abbrev pub start : List ℕ
+  start = freshOutcome t g l .lent .table
 
-    stands : standing l noSpace ≡ 0
-    stands = sym (eq _ _ _ _ (encode-stands T f .0) (ge _ _ _ _ (omega arith) (ge _ _ _ _ (omega arith) (yes _ _ _ (encode-stands T f .1) refl))))
+  -- THE LEDGER, played over the calls, answers and rows (crates/paper/specs/Ledger.antt)
+  abbrev pub ledger : Ledger
+  ledger = ledgerOf (newLedger g l) start ms
 
-    given-is : (o : Out) → step T (Open s) ≡ o → shown 0 l (step T (Open s)) .answer ≡ shown 0 l o .answer
-    given-is o e = ap (λ (x : Out). shown 0 l x .answer) e
+  booked-start : (ns : List Made) → AllFormed ns → Kept start (newLedger g l) ns
+  booked-start ns w =
+      let b = begun-told t g l fresh in
+      subst (λ (x : List ℕ). Kept x (newLedger g l) ns) (sym (b .table))
+      (kept (freshTable g l) (fresh-fine g l (b .guarantees) (b .limits) (b .fit)) (newLedger g l) (fresh-agrees g l) ns w)
 
-    by : (b : Bool) → mayBegin T s ≡ b → shown 0 l (step T (Open s)) .answer ≡ ifB (mayBegin T s) 0 7
-    by true e =
-        given-is (openedAt T s (lowestFree T)) (sym (lt _ _ _ _ h (yes _ _ _ e refl)))
-        ∙ ap (λ (x : Outcome). x .answer) (sym (eq 0 0 _ _ refl refl)) ∙ yes _ _ _ e refl
-    by false e =
-        given-is (refuse 7 T) (sym (lt _ _ _ _ h (no _ _ _ e refl))) ∙ ap (λ (x : Outcome). x .answer) (sym (ne-seven _ _)) ∙ no _ _ _ e refl
+  -- the ledger agrees with the table that the history left: the one relation between the two (crates/ledger/specs/Agrees.antt)
+  pub agreed : Kept start (newLedger g l) ms
+  agreed = booked-start ms o
+
+  -- DEMAND 2, the messages: WHAT IS SENT IS WHAT THE CALLS PUT IN. The message that the next call writes, whichever it is, is read, by the
+  -- definition by which a received one is read, as exactly what the ledger says: type, IDs, dialogue portion, cause, and the components passed and
+  -- not yet sent, in order, then the rejects shown and not yet sent; nothing where it says nothing, and nothing where the call is refused
+  pub sent-is-said : (m : Made) → WellFormed (m .call)
+      → contentOf (messageOut (gave (after start ms) m)) ≡ heard ledger (m .call) (gave (after start ms) m .answer)
+  sent-is-said m w =
+      subst (λ (x : List ℕ). contentOf (messageOut (gave x m)) ≡ heard ledger (m .call) (gave x m .answer)) (sym (agreed .table))
+      (booked (agreed .to) (agreed .fine) ledger (agreed .agrees) m w .says)
+
+  -- it has at most 272 octets, and a call that takes no message space writes none
+  pub message-fits : (m : Made) → WellFormed (m .call) → gave (after start ms) m .length ≤ spacesFor (m .call) .space
+  message-fits m w =
+      subst (λ (x : List ℕ). gave x m .length ≤ spacesFor (m .call) .space) (sym (agreed .table))
+      (booked (agreed .to) (agreed .fine) ledger (agreed .agrees) m w .fits)
+
+  -- DEMAND 2, IDS COME HOME. A dialogue of the ledger stands under the ID that an open or a BEGIN row told
+  entry-holds : (d : ℕ) (e : Entry) → find (ledger .dialogues) d ≡ some e → placeOf d < 128
+  entry-holds d e q = go (find (ledger .dialogues) d) q (agreed .agrees .each d)
+    where
+      go : (x : Option Entry) → x ≡ some e → At (placeAt (agreed .to) (placeOf d)) d x → placeOf d < 128
+      go none z a = absurd (let y : _≡_ {A = ℕ} 0 1 = cc in omega arith)
+      go (some x) z a = a .small
+
+  -- this ID, written as four octets, is read back as its number
+  pub id-reads-back : (d : ℕ) (e : Entry) → find (ledger .dialogues) d ≡ some e → numberAt (idOctets d) 0 ≡ d
+  id-reads-back d e q = id-back d (let h = entry-holds d e q in omega arith)
+
+  -- a sound Continue, End or Abort, of 1 to 512 octets, whose destination ID is the octets of an ID of ours; with spaces of the right sizes
+  module _ (s : ℕ) (h : s < services) (msg rows space : List ℕ) (octets : Octets msg) (wide : 4096 ≤ length rows) (long : 272 ≤ length space) (some-octets : 0 < length msg) (few : length msg ≤ 512)
+      (sound : messageOf msg .fault ≡ isSound) (no-uni : messageOf msg .tag ≡ uniTag → ⊥) (no-begin : messageOf msg .tag ≡ beginTag → ⊥)
+      (d : ℕ) (small : d < 4294967296) (names : octetsAt msg (messageOf msg .destination) ≡ idOctets d) where
+    abbrev comes : Made
+    comes = record { call = Receive s msg; rows = rows; space = space }
+
+    comes-is : gave (after start ms) comes ≡ given (record { table = encode (agreed .to); rows = rows; space = space }) (step (agreed .to) (Receive s msg))
+    comes-is =
+        ap (λ (x : List ℕ). gave x comes) (agreed .table) ∙ received-is (agreed .to) (agreed .fine) s msg rows space wide long h some-octets few
+
+    told-is : told (gave (after start ms) comes) .rows ≡ step (agreed .to) (Receive s msg) .rows
+    told-is =
+        ap (λ (x : Outcome). told x .rows) comes-is
+        ∙ ap (λ (x : Told). x .rows)
+        (told-step (agreed .to) (agreed .fine) (record { table = encode (agreed .to); rows = rows; space = space }) (Receive s msg) octets
+        (stands-for (agreed .to) (agreed .fine) s msg rows space wide long) (receive-answers (agreed .to) s msg h some-octets few))
+
+    -- finds that dialogue, in its service, from its first message on until it ends: its row comes first
+    pub finds-home : (e : Entry) → find (ledger .dialogues) d ≡ some e → e .service ≡ s → (e .state ≡ 2) ⊎ (e .state ≡ 4)
+        → Comes (told (gave (after start ms) comes) .rows) d (rowFor (messageOf msg))
+    unfolding forService
+    finds-home e q own st =
+        subst (λ (rs : List Row). Comes rs d (rowFor (messageOf msg))) (sym told-is)
+        (subst (λ (n : ℕ). Comes (step (agreed .to) (Receive s msg) .rows) n (rowFor (messageOf msg))) (number-is msg d small names)
+        (comes-home (agreed .to) (agreed .fine) ledger (agreed .agrees) s h msg octets some-octets few sound no-uni no-begin e
+        (addressee-is msg d small names ledger s ∙ ap (forService s) q ∙ sym (eq _ _ _ _ own (ne _ _ _ _ (λ z. not-open st z) refl))) (not-received st)))
       where
-        ne-seven : (x y : Outcome) → y ≡ ifEq 7 0 x y
-        ne-seven x y = Rattle.laws.specs.If.ne 7 0 x y (λ h. omega arith) refl
+        not-open : (e .state ≡ 2) ⊎ (e .state ≡ 4) → e .state ≡ 1 → ⊥
+        not-open (inl a) z = omega arith
+        not-open (inr a) z = omega arith
 
--- a received message, with spaces of the right sizes, gives what its step gives
-received : (T : Table) → Fine T → (s : ℕ) (msg rows space : List ℕ) → 4096 ≤ length rows → 272 ≤ length space
-    → gave (encode T) (record { call = Receive s msg; rows = rows; space = space })
-    ≡ shown 0 (record { table = encode T; rows = rows; space = space }) (step T (Receive s msg))
-unfolding outcome standing
-received T f s msg rows space a b =
-    ap (λ (n : ℕ). shown n l (step (view (encode T)) (Receive s msg)))
-    (sym (eq _ _ _ _ (encode-stands T f .0) (ge _ _ _ _ a (ge _ _ _ _ b (yes _ _ _ (encode-stands T f .1) refl)))))
-    ∙ ap (λ (U : Table). shown 0 l (step U (Receive s msg))) (view-encode T f)
-  where
-    l : Lent
-    l = record { table = encode T; rows = rows; space = space }
+        not-received : (e .state ≡ 2) ⊎ (e .state ≡ 4) → e .state ≡ 3 → ⊥
+        not-received (inl a) z = omega arith
+        not-received (inr a) z = omega arith
 
--- A FRESH TABLE with sound shares; any list of calls, wrong ones among them, that hands the table on unaltered
-module _ (g l : List ℕ) (a : length g ≡ 16) (b : length l ≡ 16)
-    (fits : sharesFit placesInAll services (λ k. getD g k 0) (λ k. getD l k 0) ≡ true) (ms : List Made) (o : AllFormed ms) where
-  abbrev guarantee : ℕ → ℕ
+    -- finds nobody where that service has no dialogue under it: no row, and the table as it was
+    pub finds-nobody : forService s (find (ledger .dialogues) d) ≡ none
+        → (told (gave (after start ms) comes) .rows ≡ []) × (gave (after start ms) comes .lent .table ≡ after start ms)
+    finds-nobody q =
+        let w = comes-nowhere (agreed .to) (agreed .fine) ledger (agreed .agrees) s h msg octets some-octets few sound no-uni no-begin (addressee-is msg d small names ledger s ∙ q) in
+        (told-is ∙ w .0, ap (λ (x : Outcome). x .lent .table) comes-is ∙ ap encode (w .1) ∙ sym (agreed .table))
+
+  -- after its place was freed, an ID finds nobody until the turn has gone round: however the history goes on, by fewer than 16,777,216 dialogues
+  -- that ended in this place, the ledger has none under it
+  module _ (ns : List Made) (w : AllFormed ns) where
+    abbrev pub later : Ledger
+    later = ledgerOf (newLedger g l) start (ms ++ ns)
+
+    pub gone-until-round : (d : ℕ) (e : Entry) → find (ledger .dialogues) d ≡ some e → endedIn (placeOf d) (ledger .ended) < endedIn (placeOf d) (later .ended)
+        → endedIn (placeOf d) (later .ended) < endedIn (placeOf d) (ledger .ended) + 16777216 → find (later .dialogues) d ≡ none
+    gone-until-round d e q a b = go (find (later .dialogues) d) refl (k .agrees .each d)
+      where
+        k : Kept start (newLedger g l) (ms ++ ns)
+        k = booked-start (ms ++ ns) (formed-append ms ns o w)
+
+        turn : (x : Option Entry) (L : Ledger) (T : Table) → Agrees T L → find (L .dialogues) d ≡ x → (y : Entry) → x ≡ some y → turnOf d ≡ endedIn (placeOf d) (L .ended) % 16777216
+        turn none L T ag p y z = absurd (let y : _≡_ {A = ℕ} 0 1 = cc in omega arith)
+        turn (some x) L T ag p y z =
+            let hold : Holds (placeAt T (placeOf d)) d x = subst (At _ d) p (ag .each d) in
+            sym (hold .turn) ∙ ag .turns (placeOf d) (hold .small)
+
+        go : (x : Option Entry) → find (later .dialogues) d ≡ x → At (placeAt (k .to) (placeOf d)) d x → find (later .dialogues) d ≡ none
+        go none z at = z
+        go (some x) z at =
+            let u = turn (some e) ledger (agreed .to) (agreed .agrees) q e refl in
+            let v = turn (some x) later (k .to) (k .agrees) z x refl in
+            absurd (omega (arith, u, v))
+
+  -- DEMAND 3. The shares that fresh was given
+  abbrev pub guarantee : ℕ → ℕ
   guarantee s = getD g s 0
 
-  abbrev limit : ℕ → ℕ
+  abbrev pub limit : ℕ → ℕ
   limit s = getD l s 0
-
-  abbrev start : List ℕ
-  start = encode (freshTable g l)
 
   -- a service's dialogues: "those begun less those ended, counted from the calls"
   abbrev pub dialogues : ℕ → ℕ
   dialogues s = begunOf s start ms - endedOf s start ms
 
-  pub reached : Reached (freshTable g l) ms
-  reached = history (freshTable g l) (fresh-fine g l a b fits) ms o
+  pub reached : Reached start (freshTable g l) ms
+  reached =
+      let b = begun-told t g l fresh in
+      subst (λ (x : List ℕ). Reached x (freshTable g l) ms) (sym (b .table)) (history (freshTable g l) (fresh-fine g l (b .guarantees) (b .limits) (b .fit)) ms o)
 
   -- the count is what the table holds
   pub counted : (s : ℕ) → (begunOf s start ms ≡ endedOf s start ms + dialogues s) × (dialogues s ≡ held (reached .to .places) s)
   counted s =
-      let z : held (freshTable g l .places) s ≡ 0 = fresh-none g l a b fits s in
+      let b = begun-told t g l fresh in
+      let z : held (freshTable g l .places) s ≡ 0 = fresh-none g l (b .guarantees) (b .limits) (b .fit) s in
       (omega (arith, reached .counts s, z), omega (arith, reached .counts s, z))
 
   counts : dialogues ≡ held (reached .to .places)
@@ -188,7 +275,7 @@ module _ (g l : List ℕ) (a : length g ≡ 16) (b : length l ≡ 16)
       go false z = refused-why placesInAll services guarantee limit dialogues s q z
 
   -- THE SAME FOR A PARTNER'S BEGIN: any sound one, of 1 to 512 octets, with spaces of the right sizes
-  module _ (s : ℕ) (h : s < services) (msg rows space : List ℕ) (wide : 4096 ≤ length rows) (long : 272 ≤ length space) (some : 0 < length msg) (few : length msg ≤ 512)
+  module _ (s : ℕ) (h : s < services) (msg rows space : List ℕ) (octets : Octets msg) (wide : 4096 ≤ length rows) (long : 272 ≤ length space) (some-octets : 0 < length msg) (few : length msg ≤ 512)
       (fine : messageOf msg .fault ≡ isSound) (begin : messageOf msg .tag ≡ beginTag) where
     abbrev begins : Made
     begins = record { call = Receive s msg; rows = rows; space = space }
@@ -197,39 +284,62 @@ module _ (g l : List ℕ) (a : length g ≡ 16) (b : length l ≡ 16)
     abbrev pub reply : Outcome
     reply = gave (after start ms) begins
 
+    -- its originating ID
+    abbrev pub asker : List ℕ
+    asker = octetsAt msg (messageOf msg .origin)
+
     abbrev lent : Lent
     lent = record { table = encode (reached .to); rows = rows; space = space }
 
-    begin-is : (o : Out) → step (reached .to) (Receive s msg) ≡ o → o .answer ≡ 0 → reply ≡ given lent o
-    begin-is o e z =
-        ap (λ (t : List ℕ). gave t begins) (reached .table) ∙ received (reached .to) (reached .fine) s msg rows space wide long
-        ∙ ap (shown 0 lent) e ∙ sym (eq _ _ _ _ z refl)
+    reply-is : reply ≡ given lent (step (reached .to) (Receive s msg))
+    reply-is = ap (λ (x : List ℕ). gave x begins) (reached .table) ∙ received-is (reached .to) (reached .fine) s msg rows space wide long h some-octets few
 
     by-rule : (b : Bool) → gives placesInAll services guarantee limit dialogues s ≡ b
-        → step (reached .to) (Receive s msg) ≡ ifB b (beginAt (reached .to) s (lowestFree (reached .to)) msg (messageOf msg)) (shows [] (causeAbortOctets (octetsAt msg (messageOf msg .origin)) 4) (reached .to))
+        → step (reached .to) (Receive s msg) ≡ ifB b (beginAt (reached .to) s (lowestFree (reached .to)) msg (messageOf msg)) (shows [] (causeAbortOctets asker 4) (reached .to))
     by-rule b e =
-        begin-step (reached .to) s msg h some few fine begin
-        ∙ ap (λ (x : Bool). ifB x (beginAt (reached .to) s (lowestFree (reached .to)) msg (messageOf msg)) (shows [] (causeAbortOctets (octetsAt msg (messageOf msg .origin)) 4) (reached .to))) (rule s ∙ e)
+        begin-step (reached .to) s msg h some-octets few fine begin
+        ∙ ap (λ (x : Bool). ifB x (beginAt (reached .to) s (lowestFree (reached .to)) msg (messageOf msg)) (shows [] (causeAbortOctets asker 4) (reached .to))) (rule s ∙ e)
 
-    -- where the rule gives, the dialogue begins: the outcome is that of a Begin with a place, whose first row is BEGIN
-    pub begin-given : gives placesInAll services guarantee limit dialogues s ≡ true
-        → reply ≡ given lent (beginAt (reached .to) s (lowestFree (reached .to)) msg (messageOf msg))
+    -- where the rule gives, its first row is BEGIN, and nothing is sent
+    given-begins : gives placesInAll services guarantee limit dialogues s ≡ true → (rowKind (told reply .rows) ≡ rowBegin) × (contentOf (messageOut reply) ≡ Wire.Nothing)
     unfolding beginAt
-    begin-given e = begin-is _ (by-rule true e ∙ sym (yes true _ _ refl refl)) refl
+    given-begins e =
+        let is : step (reached .to) (Receive s msg) ≡ beginAt (reached .to) s (lowestFree (reached .to)) msg (messageOf msg) = by-rule true e ∙ sym (yes true _ _ refl refl) in
+        (
+          ap (λ (x : Outcome). rowKind (told x .rows)) reply-is
+          ∙ ap (λ (x : Told). rowKind (x .rows))
+          (told-step (reached .to) (reached .fine) lent (Receive s msg) octets (stands-for (reached .to) (reached .fine) s msg rows space wide long) (receive-answers (reached .to) s msg h some-octets few))
+          ∙ ap (λ (x : Out). rowKind (x .rows)) is,
+          ap (λ (x : Outcome). contentOf (messageOut x)) (reply-is ∙ ap (given lent) is) ∙ nothing-content,
+        )
 
-    -- else it is refused with cause 4: no row, an Abort to its originating ID, the table as it was
-    pub begin-refused : gives placesInAll services guarantee limit dialogues s ≡ false
-        → reply ≡ given lent (shows [] (causeAbortOctets (octetsAt msg (messageOf msg .origin)) 4) (reached .to))
-    begin-refused e = begin-is _ (by-rule false e ∙ sym (no false _ _ refl refl)) refl
-
-    -- below its guarantee never; at or above it exactly as an open
-    pub begin-never-refused : dialogues s < guarantee s → reply ≡ given lent (beginAt (reached .to) s (lowestFree (reached .to)) msg (messageOf msg))
-    begin-never-refused q = begin-given (below-given placesInAll services guarantee limit dialogues s q)
-
-    pub begin-refused-exactly : guarantee s ≤ dialogues s
-        → (gives placesInAll services guarantee limit dialogues s ≡ false) ↔ ((dialogues s ≡ limit s) ⊎ (free placesInAll services dialogues ≡ others services guarantee dialogues s))
-    begin-refused-exactly q = (refused-why placesInAll services guarantee limit dialogues s q, back)
+    -- else it has no row, and an Abort with cause 4 goes to its originating ID
+    refused-aborts : gives placesInAll services guarantee limit dialogues s ≡ false → contentOf (messageOut reply) ≡ aborting asker [] 4
+    refused-aborts e =
+        let is : step (reached .to) (Receive s msg) ≡ shows [] (causeAbortOctets asker 4) (reached .to) = by-rule false e ∙ sym (no false _ _ refl refl) in
+        let n : length asker ≡ messageOf msg .origin .length = asker-length in
+        let some : 0 < messageOf msg .origin .length = message-in msg (messageOf msg) refl .begins fine begin in
+        ap (λ (x : Outcome). contentOf (messageOut x)) (reply-is ∙ ap (given lent) is)
+        ∙ ap contentOf (first-written space (causeAbortOctets asker 4) (omega (arith, cause-abort-fits asker (omega arith) (omega (arith, message-in msg (messageOf msg) refl .origin .short)) 4)))
+        ∙ cause-abort-content asker (omega arith) (omega (arith, message-in msg (messageOf msg) refl .origin .short)) 4 (omega arith)
       where
-        back : (dialogues s ≡ limit s) ⊎ (free placesInAll services dialogues ≡ others services guarantee dialogues s) → gives placesInAll services guarantee limit dialogues s ≡ false
-        back (inl e) = refused-at-limit placesInAll services guarantee limit dialogues s q e
-        back (inr e) = refused-full placesInAll services guarantee limit dialogues s q e
+        asker-length : length asker ≡ messageOf msg .origin .length
+        asker-length = simp (length-take, length-drop) (omega (arith, message-in msg (messageOf msg) refl .origin .lies))
+
+    -- "a service below its guarantee is never refused a place"
+    pub begin-never-refused : dialogues s < guarantee s → (rowKind (told reply .rows) ≡ rowBegin) × (contentOf (messageOut reply) ≡ Wire.Nothing)
+    begin-never-refused q = given-begins (below-given placesInAll services guarantee limit dialogues s q)
+
+    -- "one at or above it is refused exactly when": said on the Abort in the reply
+    pub begin-refused-exactly : guarantee s ≤ dialogues s
+        → (contentOf (messageOut reply) ≡ aborting asker [] 4) ↔ ((dialogues s ≡ limit s) ⊎ (free placesInAll services dialogues ≡ others services guarantee dialogues s))
+    begin-refused-exactly q = (λ c. go c (gives placesInAll services guarantee limit dialogues s) refl, back)
+      where
+        go : contentOf (messageOut reply) ≡ aborting asker [] 4 → (b : Bool) → gives placesInAll services guarantee limit dialogues s ≡ b
+            → (dialogues s ≡ limit s) ⊎ (free placesInAll services dialogues ≡ others services guarantee dialogues s)
+        go c true z = let w : Wire.Nothing ≡ aborting asker [] 4 = sym (given-begins z .1) ∙ c in absurd (let y : _≡_ {A = ℕ} 0 1 = cc in omega arith)
+        go c false z = refused-why placesInAll services guarantee limit dialogues s q z
+
+        back : (dialogues s ≡ limit s) ⊎ (free placesInAll services dialogues ≡ others services guarantee dialogues s) → contentOf (messageOut reply) ≡ aborting asker [] 4
+        back (inl e) = refused-aborts (refused-at-limit placesInAll services guarantee limit dialogues s q e)
+        back (inr e) = refused-aborts (refused-full placesInAll services guarantee limit dialogues s q e)

@@ -8,4 +8,5 @@ pub mod Lowest
 pub mod Begins
 pub mod History
 pub mod Booked
+pub mod Replies
 pub mod Demands
