@@ -6,3 +6,4 @@ pub mod Read
 pub mod Requests
 pub mod Received
 pub mod Steps
+pub mod Lookups
