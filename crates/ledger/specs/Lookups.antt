@@ -19,7 +19,7 @@ use Rattle.paper.specs.Components.{lastTag, errorTag, rejectTag, notLastTag}
 use Rattle.paper.specs.Invocations.{pending, sent, wait, rejecting, noInvocation, isOpen, slotOf, idleSlot, invocationOf, stateOf, inState, toState, toIdle, passed, notLastShown, transmitted, allTransmitted, acted, rejected, takes, answerKind, answerProblem, answersSent, answers, invokes, released, rejectKind, rejects, faultyReject, isAnswer, faults, act, mayReject}
 use Rattle.paper.specs.Dialogues.{rejectedBy}
 use Rattle.facts.specs.Fine.{FineInvocations, FineControl}
-use Rattle.kept.specs.Invocations.{found-open, idle-free, idle-slot}
+use Rattle.kept.specs.Invocations.{At, found-open, opens, isOpen-ne, idle-free, idle-slot, none-same, at-transmitted}
 use Rattle.kept.specs.Controls.{there}
 use Rattle.kept.specs.Acts.{Readable}
 
@@ -53,10 +53,11 @@ heardOf kind q p v =
     (ifLt kind 13 (ifLt (kindOf q) 2 (releases v) v)
     (rejectHeard q p v)))))
 
--- ONE LOOKED UP, slot by slot
-abbrev At : List Invocation → ℕ → Invocation
-At l i = getD l i noInvocation
+-- a number is below another, or not
+below : {P : Type 0} (a b : ℕ) → (a < b → P) → (b ≤ a → P) → P
+below a b p q = by-lt {r = ifLt a b a b} a b a b refl (λ h z. p h) (λ h z. q h)
 
+-- ONE LOOKED UP, slot by slot
 module _ (k : ℕ) where
   look-more : (x : Invocation) (l : List Invocation) → invocationOf (x ∷ l) k ≡ ifB (isOpen k x) x (invocationOf l k)
   unfolding invocationOf slotOf firstAt
@@ -97,3 +98,143 @@ module _ (k : ℕ) where
   set-apart [] i v a b = refl
   set-apart (x ∷ l) zero v a b = look-on v l b ∙ sym (look-on x l a)
   set-apart (x ∷ l) (suc i) v a b = look-more x (set l i v) ∙ ap (ifB (isOpen k x) x) (set-apart l i v a b) ∙ sym (look-more x l)
+
+  beyond-shut : (l : List Invocation) (j : ℕ) → length l ≤ j → isOpen k (At l j) ≡ false
+  beyond-shut l j h = ap (isOpen k) (List·getD-eq-default l noInvocation {n = j} h) ∙ none-shut
+
+  -- one that isn't of the ID
+  other-shut : (v : Invocation) → ((v .state ≡ 0 → ⊥) → v .id ≡ k → ⊥) → isOpen k v ≡ false
+  unfolding isOpen
+  other-shut v h = by-eq {r = isOpen k v} _ _ _ _ refl (λ e z. z) (λ n z. z ∙ ne-eqb (v .id) k (h n))
+
+  open-under : (v : Invocation) → (v .state ≡ 0 → ⊥) → v .id ≡ k → Under v
+  open-under v n e s = absurd (true-false (sym (sym (isOpen-ne k v n) ∙ eq-eqb (v .id) k e) ∙ s))
+
+  none-under : (v : Invocation) → v ≡ noInvocation → Under v
+  none-under v e s = e
+
+  -- the slot found is the ID's, as IDs differ
+  found-only : (l : List Invocation) → FineInvocations l → Only l (slotOf l k)
+  unfolding slotOf
+  found-only l f = (under, others)
+    where
+      i : ℕ
+      i = firstAt (isOpen k) l
+
+      under : Under (At l i)
+      under =
+          below i (length l)
+          (λ h e. absurd (true-false (sym (first-at (isOpen k) noInvocation l h) ∙ e)))
+          (λ h e. List·getD-eq-default l noInvocation {n = i} h)
+
+      after : (j : ℕ) → i < j → j < length l → (b : Bool) → isOpen k (At l j) ≡ b → isOpen k (At l j) ≡ false
+      after j g h false e = e
+      after j g h true e =
+          let a = opens k (At l i) (first-at (isOpen k) noInvocation l (omega arith)) in
+          let b = opens k (At l j) e in
+          absurd (f .differ i j g h (a .0) (b .0) (b .1 ∙ sym (a .1)))
+
+      others : (j : ℕ) → (j ≡ i → ⊥) → isOpen k (At l j) ≡ false
+      others j n =
+          below j i (λ h. first-before (isOpen k) noInvocation l j h)
+          (λ h. below j (length l) (λ g. after j (omega arith) g (isOpen k (At l j)) refl) (λ g. beyond-shut l j g))
+
+  -- WHAT IS LOOKED UP is the ID's, or none
+  pub looked-under : (l : List Invocation) → FineInvocations l → Under (invocationOf l k)
+  unfolding invocationOf
+  looked-under l f = found-only l f .0
+
+  pub looked-open : (l : List Invocation) → (invocationOf l k .state ≡ 0 → ⊥) → invocationOf l k .id ≡ k
+  unfolding invocationOf
+  looked-open l n =
+      below (slotOf l k) (length l) (λ h. found-open l k h .1)
+      (λ h. absurd (n (ap (λ (v : Invocation). v .state) (List·getD-eq-default l noInvocation {n = slotOf l k} h))))
+
+  pub looked-idle : (l : List Invocation) → FineInvocations l → invocationOf l k .state ≡ 0 → invocationOf l k ≡ noInvocation
+  looked-idle l f e = looked-under l f (other-shut (invocationOf l k) (λ n. absurd (n e)))
+
+-- A SLOT THAT IS AN ID'S, SET to another of the ID, or none: beyond the end nothing is set
+set-lookup : (l : List Invocation) (id i : ℕ) (v : Invocation) → Only id l i → Under id v → (length l ≤ i → v ≡ noInvocation) → (k : ℕ)
+    → invocationOf (set l i v) k ≡ ifEq k id v (invocationOf l k)
+set-lookup l id i v o u b k =
+    by-eq {r = ifEq k id v (invocationOf l k)} _ _ _ _ refl
+    (λ e z. ap (invocationOf (set l i v)) e ∙ looked id (set l i v) i (under, others) ∙ at ∙ sym z)
+    (λ n z. set-apart k l i v (apart n (At l i) (o .0)) (apart n v u) ∙ sym z)
+  where
+    at : At (set l i v) i ≡ v
+    at =
+        below i (length l) (λ h. getD-set-same l i v noInvocation h)
+        (λ h. ap (λ (m : List Invocation). At m i) (set-out l i v h) ∙ List·getD-eq-default l noInvocation {n = i} h ∙ sym (b h))
+
+    under : Under id (At (set l i v) i)
+    under e = at ∙ u (sym (ap (isOpen id) at) ∙ e)
+
+    others : (j : ℕ) → (j ≡ i → ⊥) → isOpen id (At (set l i v) j) ≡ false
+    others j n = ap (isOpen id) (getD-set-other l i j v noInvocation n) ∙ o .1 j n
+
+    apart : (k ≡ id → ⊥) → (x : Invocation) → Under id x → isOpen k x ≡ false
+    apart n x w = go (isOpen id x) refl
+      where
+        go : (t : Bool) → isOpen id x ≡ t → isOpen k x ≡ false
+        go true e = other-shut k x (λ m q. n (sym q ∙ opens id x e .1))
+        go false e = ap (isOpen k) (w e) ∙ none-shut k
+
+-- TRANSMITTED, each goes its way and keeps its ID, or goes to Idle
+module _ (k : ℕ) (v : Invocation) where
+  by-transmitted : {P : Type 0} → (isOpen k (transmitted v) ≡ isOpen k v → P) → (transmitted v ≡ noInvocation → P) → P
+  unfolding transmitted
+  by-transmitted a b =
+      by-eq {r = transmitted v} _ _ _ _ refl
+      (λ e z. a (ap (isOpen k) z ∙ sym (isOpen-ne k (inState v 2) (λ q. omega arith)) ∙ isOpen-ne k v (λ q. omega arith)))
+      (λ n z. by-eq _ _ _ _ z (λ e z. b z) (λ m z. a (ap (isOpen k) z)))
+
+  transmitted-shut : isOpen k v ≡ false → isOpen k (transmitted v) ≡ false
+  transmitted-shut e = by-transmitted (λ z. z ∙ e) (λ z. ap (isOpen k) z ∙ none-shut k)
+
+  transmitted-under : Under k v → Under k (transmitted v)
+  transmitted-under u e = by-transmitted (λ z. ap transmitted (u (sym z ∙ e)) ∙ none-same) (λ z. z)
+
+module _ (c : Control) (f : FineControl c) where
+  pub idle-lookup : (id k : ℕ) → invocationOf (toIdle c id .invocations) k ≡ ifEq k id noInvocation (invocationOf (c .invocations) k)
+  unfolding toIdle
+  idle-lookup id k = set-lookup (c .invocations) id _ noInvocation (found-only id _ (f .invocations)) (λ e. refl) (λ h. refl) k
+
+  -- one in use, changed
+  change-lookup : (id : ℕ) (v : Invocation) → (stateOf c id ≡ 0 → ⊥) → (v .state ≡ 0 → ⊥) → v .id ≡ invocationOf (c .invocations) id .id → (k : ℕ)
+      → invocationOf (set (c .invocations) (slotOf (c .invocations) id) v) k ≡ ifEq k id v (invocationOf (c .invocations) k)
+  change-lookup id v n m e k =
+      set-lookup (c .invocations) id _ v (found-only id _ (f .invocations)) (open-under id v m (e ∙ looked-open id (c .invocations) n))
+      (λ h. absurd (omega (arith, there c f id n, f .eight))) k
+
+  pub state-lookup : (id state : ℕ) → (stateOf c id ≡ 0 → ⊥) → (state ≡ 0 → ⊥) → (k : ℕ)
+      → invocationOf (toState c id state .invocations) k ≡ ifEq k id (inState (invocationOf (c .invocations) id) state) (invocationOf (c .invocations) k)
+  unfolding toState
+  state-lookup id state n m k = change-lookup id _ n m refl k
+
+  pub shown-lookup : (id : ℕ) → (stateOf c id ≡ 0 → ⊥) → (k : ℕ)
+      → invocationOf (notLastShown c id .invocations) k ≡ ifEq k id (wasShown (invocationOf (c .invocations) id)) (invocationOf (c .invocations) k)
+  unfolding notLastShown
+  shown-lookup id n k = change-lookup id _ n n refl k
+
+  pub passed-lookup : (id class : ℕ) → stateOf c id ≡ 0 → idleSlot (c .invocations) < 8 → (k : ℕ)
+      → invocationOf (passed c id class .invocations) k ≡ ifEq k id (record { id = id; class = class; state = pending; shown = 0 }) (invocationOf (c .invocations) k)
+  unfolding passed
+  passed-lookup id class e h k =
+      let l : List Invocation = c .invocations in
+      let g : idleSlot l < length l = omega (arith, f .eight) in
+      set-lookup l id _ _ (
+        λ s. f .invocations .each (idleSlot l) g .unused (idle-slot l g),
+        λ j n. below j (length l) (λ b. other-shut id (At l j) (idle-free l id e j b)) (beyond-shut id l j),
+      )
+      (open-under id _ (λ q. omega arith) refl) (λ b. absurd (omega arith)) k
+
+  pub transmitted-lookup : (k : ℕ) → invocationOf (allTransmitted c .invocations) k ≡ transmitted (invocationOf (c .invocations) k)
+  unfolding allTransmitted invocationOf
+  transmitted-lookup k =
+      let l : List Invocation = c .invocations in
+      let o = found-only k l (f .invocations) in
+      looked k (map transmitted l) (slotOf l k) (
+        subst (Under k) (sym (at-transmitted l (slotOf l k))) (transmitted-under k _ (o .0)),
+        λ j n. ap (isOpen k) (at-transmitted l j) ∙ transmitted-shut k _ (o .1 j n),
+      )
+      ∙ at-transmitted l (slotOf l k)

@@ -95,6 +95,11 @@ module _ (e : Entry) (x : Place) (w : Is e x) where
     unfolding goes fit
     goes-few =
         by-b {r = goes e} _ _ _ refl
-        (λ b z. omega (arith, ap (λ (l : List Written). length (joined l)) z, ap length (joined-append (e .passed) (e .rejects)),
-        length-append (joined (e .passed)) (joined (e .rejects)), leb-true (length (joined (e .passed)) + length (joined (e .rejects))) 240 b))
+        (λ b z. omega (
+          arith,
+          ap (λ (l : List Written). length (joined l)) z,
+          ap length (joined-append (e .passed) (e .rejects)),
+          length-append (joined (e .passed)) (joined (e .rejects)),
+          leb-true (length (joined (e .passed)) + length (joined (e .rejects))) 240 b,
+        ))
         (λ b z. omega (arith, ap (λ (l : List Written). length (joined l)) z, ap length (w .passed), f .room))
