@@ -2,20 +2,19 @@
 use mathlib.Core.Path.{_≡_, refl, sym, ap, subst, _∙_}
 use mathlib.Core.Bool.{Bool, true, false}
 use mathlib.Core.List.{List, [], _∷_, map}
-use Prim.Native.Nat.{ℕ, zero, suc, _+_, _≤_, _<_}
+use Prim.Native.Nat.{ℕ, zero, suc, _≤_, _<_}
 use native.Mathlib.Omega.{arith}
-use lib.ListN.{length, getD, set, List·getD-eq-default, List·getD-map}
+use lib.ListN.{length, set, List·getD-eq-default}
 use lib.Seq.{set-out, getD-set-same, getD-set-other}
-use lib.Dec.{eqb}
-use borrow.Author.Tests.{eqb-true, eqb-false, eq-eqb, ne-eqb}
+use borrow.Author.Tests.{eq-eqb, ne-eqb}
 use Rattle.laws.specs.If.{ifLt, ifEq, ifB, lt, ge, eq, ne, yes, no, by-lt, by-eq, by-b, true-false}
 use Rattle.laws.specs.Lists.{firstAt, first-at, first-before}
 use Rattle.paper.specs.declared.Component.{Component}
 use Rattle.paper.specs.declared.Invocation.{Invocation}
 use Rattle.paper.specs.declared.Control.{Control}
 use Rattle.paper.specs.declared.Acted.{Acted}
-use Rattle.paper.specs.Problems.{problem, general, kindOf, noProblem}
-use Rattle.paper.specs.Components.{lastTag, errorTag, rejectTag, notLastTag}
+use Rattle.paper.specs.Problems.{problem, kindOf, noProblem}
+use Rattle.paper.specs.Components.{rejectTag, notLastTag}
 use Rattle.paper.specs.Invocations.{pending, sent, wait, rejecting, noInvocation, isOpen, slotOf, idleSlot, invocationOf, stateOf, inState, toState, toIdle, passed, notLastShown, transmitted, allTransmitted, acted, rejected, takes, answerKind, answerProblem, answersSent, answers, invokes, released, rejectKind, rejects, faultyReject, isAnswer, faults, act, mayReject}
 use Rattle.paper.specs.Dialogues.{rejectedBy}
 use Rattle.facts.specs.Fine.{FineInvocations, FineControl}
@@ -79,11 +78,11 @@ module _ (k : ℕ) where
   none-there [] h = refl
   none-there (x ∷ l) h = look-on x l (h 0) ∙ none-there l (λ j. h (suc j))
 
-  -- an invocation in use under the ID, or none
+  -- one in use under the ID, or none at all
   abbrev Under : Invocation → Type 0
   Under v = isOpen k v ≡ false → v ≡ noInvocation
 
-  -- A SLOT IS THE ID'S where it holds that, and no other slot holds one of the ID
+  -- A SLOT IS THE ID'S where it holds such a one, and no other slot holds one of the ID
   abbrev Only : List Invocation → ℕ → Type 0
   Only l i = Under (At l i) × ((j : ℕ) → (j ≡ i → ⊥) → isOpen k (At l j) ≡ false)
 
@@ -94,12 +93,13 @@ module _ (k : ℕ) where
       by-b _ _ _ (look-more x l) (λ e z. z) (λ e z. z ∙ none-there l (λ j. o .1 (suc j) (λ q. omega arith)) ∙ sym (o .0 e))
   looked (x ∷ l) (suc i) o = look-on x l (o .1 0 (λ q. omega arith)) ∙ looked l i (o .0, λ j n. o .1 (suc j) (λ q. n (omega arith)))
 
-  -- a slot set, of neither an ID before nor after
+  -- a slot set that is another ID's before and after
   set-apart : (l : List Invocation) (i : ℕ) (v : Invocation) → isOpen k (At l i) ≡ false → isOpen k v ≡ false → invocationOf (set l i v) k ≡ invocationOf l k
   set-apart [] i v a b = refl
   set-apart (x ∷ l) zero v a b = look-on v l b ∙ sym (look-on x l a)
   set-apart (x ∷ l) (suc i) v a b = look-more x (set l i v) ∙ ap (ifB (isOpen k x) x) (set-apart l i v a b) ∙ sym (look-more x l)
 
+  -- past the end there is none
   beyond-shut : (l : List Invocation) (j : ℕ) → length l ≤ j → isOpen k (At l j) ≡ false
   beyond-shut l j h = ap (isOpen k) (List·getD-eq-default l noInvocation {n = j} h) ∙ none-shut
 
@@ -110,9 +110,6 @@ module _ (k : ℕ) where
 
   open-under : (v : Invocation) → (v .state ≡ 0 → ⊥) → v .id ≡ k → Under v
   open-under v n e s = absurd (true-false (sym (sym (isOpen-ne k v n) ∙ eq-eqb (v .id) k e) ∙ s))
-
-  none-under : (v : Invocation) → v ≡ noInvocation → Under v
-  none-under v e s = e
 
   -- the slot found is the ID's, as IDs differ
   found-only : (l : List Invocation) → FineInvocations l → Only l (slotOf l k)
@@ -141,7 +138,7 @@ module _ (k : ℕ) where
           (λ h. below j (length l) (λ g. after j (omega arith) g (isOpen k (At l j)) refl) (λ g. beyond-shut l j g))
 
   -- WHAT IS LOOKED UP is the ID's, or none
-  pub looked-under : (l : List Invocation) → FineInvocations l → Under (invocationOf l k)
+  looked-under : (l : List Invocation) → FineInvocations l → Under (invocationOf l k)
   unfolding invocationOf
   looked-under l f = found-only l f .0
 
@@ -198,6 +195,15 @@ module _ (k : ℕ) (v : Invocation) where
   transmitted-under : Under k v → Under k (transmitted v)
   transmitted-under u e = by-transmitted (λ z. ap transmitted (u (sym z ∙ e)) ∙ none-same) (λ z. z)
 
+-- "User reject of a result: Wait, or Sent ..; of an error: Wait": of one in use
+rejectable : (kind : ℕ) (v : Invocation) → (kind ≡ 1 → ⊥) → mayReject kind v ≡ true → v .state ≡ 0 → ⊥
+unfolding mayReject
+rejectable kind v n m e =
+    by-eq _ _ _ _ (sym m) (λ a z. n a)
+    (λ a z. by-eq _ _ _ _ z (λ b z. omega arith)
+    (λ b z. by-eq _ _ _ _ z (λ d z. by-eq _ _ _ _ z (λ g z. omega arith) (λ g z. true-false z)) (λ d z. true-false z)))
+
+-- EACH CHANGE of a control record
 module _ (c : Control) (f : FineControl c) where
   -- our invocation of an ID, and what becomes of it
   abbrev ours : ℕ → Invocation
@@ -254,14 +260,6 @@ module _ (c : Control) (f : FineControl c) where
       )
       ∙ at-transmitted l (slotOf l k)
 
-  -- "User reject of a result: Wait, or Sent ..; of an error: Wait": of one in use
-  rejectable : (kind : ℕ) (v : Invocation) → (kind ≡ 1 → ⊥) → mayReject kind v ≡ true → v .state ≡ 0 → ⊥
-  unfolding mayReject
-  rejectable kind v n m e =
-      by-eq _ _ _ _ (sym m) (λ a z. n a)
-      (λ a z. by-eq _ _ _ _ z (λ b z. omega arith)
-      (λ b z. by-eq _ _ _ _ z (λ d z. by-eq _ _ _ _ z (λ g z. omega arith) (λ g z. true-false z)) (λ d z. true-false z)))
-
   pub rejected-lookup : (id p : ℕ) → mayReject (kindOf p) (ours id) ≡ true
       → Goes (rejectedBy c id p) id (ifEq (kindOf p) 1 (ours id) (inState (ours id) rejecting))
   unfolding rejectedBy
@@ -275,6 +273,22 @@ module _ (c : Control) (f : FineControl c) where
   released-lookup id =
       by-eq {r = released c id} _ _ _ _ refl (λ e z. goes id z (eq _ _ _ _ e refl) (idle-lookup id)) (λ n z. goes id z (ne _ _ _ _ n refl) (same-lookup id))
 
+-- "A7 stays Sent; A2, A3 to Wait", by what a class takes
+module _ (class tag : ℕ) where
+  not-one : (a b : ℕ) {r : ℕ} → r ≡ ifEq class a 2 (ifEq class b 2 0) → r ≡ 1 → ⊥
+  not-one a b z e = by-eq _ _ _ _ z (λ q z. omega arith) (λ q z. by-eq _ _ _ _ z (λ q z. omega arith) (λ q z. omega arith))
+
+  takes-stays : takes class tag ≡ 1 → tag ≡ notLastTag
+  unfolding takes
+  takes-stays e =
+      by-eq {r = takes class tag} _ _ _ _ refl (λ a z. a)
+      (λ a z. by-eq _ _ _ _ z (λ b z. absurd (not-one 1 3 z e)) (λ b z. absurd (not-one 1 2 z e)))
+
+  takes-waits : (takes class tag ≡ 0 → ⊥) → (takes class tag ≡ 1 → ⊥) → tag ≡ notLastTag → ⊥
+  unfolding takes
+  takes-waits n m e =
+      by-eq {r = takes class tag} _ _ _ _ refl (λ a z. by-eq _ _ _ _ z (λ b z. m z) (λ b z. by-eq _ _ _ _ z (λ d z. m z) (λ d z. n z))) (λ a z. a e)
+
 -- WHAT A COMPONENT TELLS is what becomes of our invocation of its ID
 module _ (room : ℕ) (c : Control) (f : FineControl c) (p : Component) where
   abbrev mine : Invocation
@@ -287,12 +301,15 @@ module _ (room : ℕ) (c : Control) (f : FineControl c) (p : Component) where
       → Turns (c .invocations) (d .invocations) (p .id) v → Heard a
   hears d kind q v z e g = subst Heard (sym z) (subst (Turns (c .invocations) (d .invocations) (p .id)) e g)
 
+  -- of the rows for rejects
+  reject-heard : (kind q : ℕ) → 11 ≤ kind → ifLt kind 13 (ifLt (kindOf q) 2 (releases mine) mine) (rejectHeard q p mine) ≡ heardOf kind q p mine
+  unfolding heardOf
+  reject-heard kind q h =
+      ne _ _ _ _ (λ e. omega arith) (ne _ _ _ _ (λ e. omega arith) (ne _ _ _ _ (λ e. omega arith) (ne _ _ _ _ (λ e. omega arith) refl)))
+
   -- by a reject of ours, stored or not
   own-heard : (kind q : ℕ) → 13 ≤ kind → rejectHeard q p mine ≡ heardOf kind q p mine
-  unfolding heardOf
-  own-heard kind q h =
-      ne _ _ _ _ (λ e. omega arith)
-      (ne _ _ _ _ (λ e. omega arith) (ne _ _ _ _ (λ e. omega arith) (ne _ _ _ _ (λ e. omega arith) (ge _ _ _ _ h refl))))
+  own-heard kind q h = ge _ _ _ _ h refl ∙ reject-heard kind q (omega arith)
 
   own-hears : {a : Acted} (d : Control) (q : ℕ) (v : Invocation) → a ≡ rejected room d (p .id) q → v ≡ rejectHeard q p mine
       → Turns (c .invocations) (d .invocations) (p .id) v → Heard a
@@ -326,18 +343,12 @@ module _ (room : ℕ) (c : Control) (f : FineControl c) (p : Component) where
   unfolding rejectKind
   reject-kind q = whether-eq (λ (n : ℕ). (11 ≤ n) × (n < 13)) _ _ _ _ (omega arith, omega arith) (omega arith, omega arith)
 
-  reject-heard : (kind q : ℕ) → 11 ≤ kind → kind < 13 → ifLt (kindOf q) 2 (releases mine) mine ≡ heardOf kind q p mine
-  unfolding heardOf
-  reject-heard kind q a b =
-      ne _ _ _ _ (λ e. omega arith)
-      (ne _ _ _ _ (λ e. omega arith) (ne _ _ _ _ (λ e. omega arith) (ne _ _ _ _ (λ e. omega arith) (lt _ _ _ _ b refl))))
-
   rejects-hears : {a : Acted} → a ≡ rejects c (p .id) (p .problem) → Heard a
   unfolding rejects
   rejects-hears z =
       let q : ℕ = p .problem in
       let k = reject-kind q in
-      let e = reject-heard (rejectKind q) q (k .0) (k .1) in
+      let e = lt _ _ _ _ (k .1) refl ∙ reject-heard (rejectKind q) q (k .0) in
       by-lt _ _ _ _ z (λ h z. hears _ _ q _ z (lt _ _ _ _ h refl ∙ e) (released-lookup c f (p .id)))
       (λ h z. hears c _ q _ z (ge _ _ _ _ h refl ∙ e) (same-lookup c f (p .id)))
 
@@ -354,22 +365,6 @@ module _ (room : ℕ) (c : Control) (f : FineControl c) (p : Component) where
       (λ a z. by-b _ _ _ z
       (λ b z. own-hears _ _ _ z (ne _ _ _ _ a (yes _ _ _ b refl) ∙ w) r)
       (λ b z. own-hears _ _ _ z (ne _ _ _ _ a (no _ _ _ b refl) ∙ w) g))
-
-  -- "A7 stays Sent; A2, A3 to Wait", by what a class takes
-  module _ (class tag : ℕ) where
-    not-one : (a b : ℕ) {r : ℕ} → r ≡ ifEq class a 2 (ifEq class b 2 0) → r ≡ 1 → ⊥
-    not-one a b z e = by-eq _ _ _ _ z (λ q z. omega arith) (λ q z. by-eq _ _ _ _ z (λ q z. omega arith) (λ q z. omega arith))
-
-    takes-stays : takes class tag ≡ 1 → tag ≡ notLastTag
-    unfolding takes
-    takes-stays e =
-        by-eq {r = takes class tag} _ _ _ _ refl (λ a z. a)
-        (λ a z. by-eq _ _ _ _ z (λ b z. absurd (not-one 1 3 z e)) (λ b z. absurd (not-one 1 2 z e)))
-
-    takes-waits : (takes class tag ≡ 0 → ⊥) → (takes class tag ≡ 1 → ⊥) → tag ≡ notLastTag → ⊥
-    unfolding takes
-    takes-waits n m e =
-        by-eq {r = takes class tag} _ _ _ _ refl (λ a z. by-eq _ _ _ _ z (λ b z. m z) (λ b z. by-eq _ _ _ _ z (λ d z. m z) (λ d z. n z))) (λ a z. a e)
 
   shown-heard : p .tag ≡ notLastTag → wasShown mine ≡ heardOf (answerKind (p .tag)) noProblem p mine
   unfolding answerKind heardOf
