@@ -24,7 +24,7 @@ use Rattle.paper.specs.Layout.{encode, view}
 use Rattle.paper.specs.Rules.{rules}
 use Rattle.paper.specs.Outcome.{Lent, Outcome, Gives, spacesFor, standing, given, shown, refusedBy, outcome, freshOutcome, one}
 use Rattle.paper.specs.Contents.{Wire, contentOf}
-use Rattle.paper.specs.Ledger.{Entry, Ledger, Told, newLedger, find, forService, aborting}
+use Rattle.paper.specs.Ledger.{Entry, Ledger, Told, newLedger, find, forService, aborting, endedIn}
 use Rattle.readback.specs.Contents.{nothing-content, cause-abort-fits, cause-abort-content}
 use Rattle.messages.specs.Bounds.{message-in}
 use Rattle.facts.specs.Fine.{Octets}
@@ -34,7 +34,7 @@ use Rattle.kept.specs.Tables.{outcome-ready, ready-rules}
 use Rattle.shares.specs.Share.{Shares, Sound, below-given, refused-at-limit, refused-full, refused-why}
 use Rattle.kept.specs.Shared.{shares as fine-shares, sound as fine-sound}
 use Rattle.kept.specs.Fresh.{fresh-fine, fresh-none}
-use Rattle.ledger.specs.Agrees.{Holds, At, endedIn, Agrees}
+use Rattle.ledger.specs.Agrees.{Holds, At, Agrees}
 use Rattle.ledger.specs.Steps.{fresh-agrees}
 use Rattle.ledger.specs.Homes.{Comes, rowFor, id-back, number-is, addressee-is, comes-home, comes-nowhere}
 use Rattle.demands.specs.Stands.{Stands, not-refused}

@@ -14,7 +14,7 @@ use Rattle.paper.specs.declared.Invocation.{Invocation}
 use Rattle.paper.specs.Invocations.{noInvocation, isOpen, isIdle, slotOf, idleSlot, invocationOf, inState, transmitted}
 use Rattle.facts.specs.Fine.{FineInvocation, FineInvocations}
 
-abbrev At : List Invocation → ℕ → Invocation
+abbrev pub At : List Invocation → ℕ → Invocation
 At l i = getD l i noInvocation
 
 -- the one in Idle
@@ -65,7 +65,7 @@ same-id-fine l i v f h u g e = set-fine l i v f g (λ p j d n q r. other j d n q
     other j d n q r false w = let ge : i ≤ j = ltb-false j i w in f .differ i j (omega arith) n u q r
 
 -- FOUND: what is found under an ID has it, and is none in Idle
-opens : (id : ℕ) (v : Invocation) → isOpen id v ≡ true → (v .state ≡ 0 → ⊥) × (v .id ≡ id)
+pub opens : (id : ℕ) (v : Invocation) → isOpen id v ≡ true → (v .state ≡ 0 → ⊥) × (v .id ≡ id)
 unfolding isOpen
 opens id v e = by-eq _ _ _ _ (sym e) (λ z w. absurd (true-false w)) (λ z w. (z, eqb-true (v .id) id (sym w)))
 
@@ -73,7 +73,7 @@ pub found-open : (l : List Invocation) (id : ℕ) → slotOf l id < length l →
 unfolding slotOf
 found-open l id h = opens id (At l (firstAt (isOpen id) l)) (first-at (isOpen id) noInvocation l h)
 
-isOpen-ne : (id : ℕ) (v : Invocation) → (v .state ≡ 0 → ⊥) → eqb (v .id) id ≡ isOpen id v
+pub isOpen-ne : (id : ℕ) (v : Invocation) → (v .state ≡ 0 → ⊥) → eqb (v .id) id ≡ isOpen id v
 unfolding isOpen
 isOpen-ne id v n = ne (v .state) 0 false (eqb (v .id) id) n refl
 
@@ -136,24 +136,24 @@ transmitted-same v u =
     (λ e z. absurd (u (ap (λ (x : Invocation). x .state) z)))
     (λ m z. (λ q. u (ap (λ (x : Invocation). x .state) z ∙ q), ap (λ (x : Invocation). x .id) z)))
 
-none-same : transmitted noInvocation ≡ noInvocation
+pub none-same : transmitted noInvocation ≡ noInvocation
 unfolding transmitted
 none-same = sym (ne 0 1 (inState noInvocation 2) (ifEq 0 4 noInvocation noInvocation) (λ h. omega arith) (ne 0 4 noInvocation noInvocation (λ h. omega arith) refl))
+
+pub at-transmitted : (l : List Invocation) (j : ℕ) → At (map transmitted l) j ≡ transmitted (At l j)
+at-transmitted l j = sym (ap (getD (map transmitted l) j) none-same) ∙ List·getD-map transmitted l j noInvocation
 
 pub all-transmitted-fine : (l : List Invocation) → FineInvocations l → FineInvocations (map transmitted l)
 all-transmitted-fine l f = record { each = each; differ = differ }
   where
-    at : (j : ℕ) → At (map transmitted l) j ≡ transmitted (At l j)
-    at j = sym (ap (getD (map transmitted l) j) none-same) ∙ List·getD-map transmitted l j noInvocation
-
     each : (j : ℕ) → j < length (map transmitted l) → FineInvocation (At (map transmitted l) j)
-    each j h = subst FineInvocation (sym (at j)) (transmitted-fine (At l j) (f .each j (omega (arith, length-map l transmitted))))
+    each j h = subst FineInvocation (sym (at-transmitted l j)) (transmitted-fine (At l j) (f .each j (omega (arith, length-map l transmitted))))
 
     differ :
         (j k : ℕ) → j < k → k < length (map transmitted l) → (At (map transmitted l) j .state ≡ 0 → ⊥) → (At (map transmitted l) k .state ≡ 0 → ⊥)
         → At (map transmitted l) k .id ≡ At (map transmitted l) j .id → ⊥
     differ j k lt h p q r =
-        let a = transmitted-same (At l j) (λ z. p (ap (λ (x : Invocation). x .state) (at j) ∙ z)) in
-        let b = transmitted-same (At l k) (λ z. q (ap (λ (x : Invocation). x .state) (at k) ∙ z)) in
+        let a = transmitted-same (At l j) (λ z. p (ap (λ (x : Invocation). x .state) (at-transmitted l j) ∙ z)) in
+        let b = transmitted-same (At l k) (λ z. q (ap (λ (x : Invocation). x .state) (at-transmitted l k) ∙ z)) in
         f .differ j k lt (omega (arith, length-map l transmitted)) (a .0) (b .0)
-        (sym (ap (λ (x : Invocation). x .id) (at k) ∙ b .1) ∙ r ∙ ap (λ (x : Invocation). x .id) (at j) ∙ a .1)
+        (sym (ap (λ (x : Invocation). x .id) (at-transmitted l k) ∙ b .1) ∙ r ∙ ap (λ (x : Invocation). x .id) (at-transmitted l j) ∙ a .1)

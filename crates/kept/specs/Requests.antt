@@ -86,7 +86,7 @@ module _ (x : Place) where
   abbrev Taken : Written → Type 0
   Taken v = Allowed v × (overfull x (octetsOf v) ≡ 0)
 
-  invoke-told : (id linked class : ℕ) (op par : List ℕ) → id < 256 → linked ≤ noID → invokeRefusal x id linked class op par ≡ 0
+  pub invoke-told : (id linked class : ℕ) (op par : List ℕ) → id < 256 → linked ≤ noID → invokeRefusal x id linked class op par ≡ 0
       → (1 ≤ class) × (class ≤ 4) × (stateOf (x .control) id ≡ 0) × Taken (Written.Invoke id linked op par)
   unfolding invokeRefusal octetsOf
   invoke-told id linked class op par h g e =
@@ -113,7 +113,7 @@ module _ (x : Place) where
       let p = was-yes _ _ _ (k .1) (λ z. omega arith) in
       ((h, k .0, p .0), sym (p .1)))
 
-  reject-told : (id p : ℕ) → id ≤ noID → rejectRefusal x id p ≡ 0
+  pub reject-told : (id p : ℕ) → id ≤ noID → rejectRefusal x id p ≡ 0
       → (mayReject (kindOf p) (invocationOf (x .control .invocations) id) ≡ true) × Taken (Written.Reject id p)
   unfolding rejectRefusal octetsOf
   reject-told id p h e =
@@ -186,7 +186,7 @@ module _ (x : Place) (f : FinePlace x) (used : x .control .state ≡ 0 → ⊥) 
       (λ a w. by-eq _ _ _ _ w (λ b w. omega arith)
       (λ b w. by-eq _ _ _ _ w (λ c w. let d = was-eq _ _ _ _ w true-false in omega arith) (λ c w. true-false w)))
 
-  rejected-by-stays : (id p : ℕ) → mayReject (kindOf p) (invocationOf (x .control .invocations) id) ≡ true → Stays (x .control) (rejectedBy (x .control) id p)
+  pub rejected-by-stays : (id p : ℕ) → mayReject (kindOf p) (invocationOf (x .control .invocations) id) ≡ true → Stays (x .control) (rejectedBy (x .control) id p)
   unfolding rejectedBy toState
   rejected-by-stays id p e =
       by-eq {r = rejectedBy (x .control) id p} _ _ _ _ refl (λ a z. subst (Stays (x .control)) (sym z) (unchanged (x .control) (f .control)))

@@ -16,12 +16,13 @@ use Rattle.paper.specs.Sizes.{placeOf, turnOf, localID, nextTurn}
 use Rattle.paper.specs.Writing.{Written, joined}
 use Rattle.paper.specs.Dialogues.{Place, emptyPlace, freed, peerOf}
 use Rattle.paper.specs.Calls.{Table, placeAt, withPlace, isOf, held}
-use Rattle.paper.specs.Ledger.{Entry, Ledger, find, altered, removed, isEntryOf, entriesOf, begins, goesOn, ends}
+use Rattle.paper.specs.Ledger.{Entry, Ledger, hadPlace, endedIn, find, altered, removed, isEntryOf, entriesOf, begins, goesOn, ends}
 use Rattle.readback.specs.Written.{AllAllowed}
 use Rattle.facts.specs.Fine.{Fine}
 use Rattle.facts.specs.Changes.{held-set, of-used, place-same, place-other}
 use Rattle.facts.specs.Owners.{Owned}
 use Rattle.kept.specs.Shared.{of-free}
+use Rattle.ledger.specs.Ours.{Ours}
 use Rattle.ledger.specs.Entries.{Distinct, mapped, find-id, find-altered, find-altered-other, distinct-altered, entries-altered, find-removed, find-removed-other, distinct-removed, entries-removed, find-added, find-added-other, distinct-added, entries-added}
 
 -- a waiting reject, as a component; those of a dialogue
@@ -39,6 +40,7 @@ pub record Is (e : Entry) (x : Place) : Type 0 where
   pub passed : x .waiting ≡ joined (e .passed)
   pub allowed : AllAllowed (e .passed)
   pub rejects : waits (x .control) ≡ e .rejects
+  pub ours : Ours (x .control .invocations) (e .invocations)
 
 -- under its ID: the place holds the dialogue of that turn, or no such dialogue where the ledger has none
 pub record Holds (x : Place) (d : ℕ) (e : Entry) : Type 0 where
@@ -50,13 +52,6 @@ pub record Holds (x : Place) (d : ℕ) (e : Entry) : Type 0 where
 abbrev pub At : Place → ℕ → Option Entry → Type 0
 At x d none = placeOf d < 128 → (x .control .state ≡ 0 → ⊥) → x .control .turn ≡ turnOf d → ⊥
 At x d (some e) = Holds x d e
-
--- how many of the dialogues that ended had a place
-unfoldable pub hadPlace : ℕ → ℕ → ℕ
-hadPlace p d = ifEq (placeOf d) p 1 0
-
-unfoldable pub endedIn : ℕ → List ℕ → ℕ
-endedIn p l = sumBy (hadPlace p) l
 
 -- THE RELATION
 pub record Agrees (T : Table) (L : Ledger) : Type 0 where
@@ -168,18 +163,13 @@ module _ (T : Table) (f : Fine T) (L : Ledger) (g : Agrees T L) where
       turns = turned p (holds .small) y (λ q. endedIn q (L .ended)) (λ q n. refl) (turn ∙ sym (holds .turn) ∙ g .turns p (holds .small));
     }
 
-  -- its entry altered, or as it was
+  -- its entry altered
   pub agrees-altered : (d : ℕ) (e : Entry) (y : Place) (a : Entry → Entry) → find l d ≡ some e → Holds (placeAt T (placeOf d)) d e
       → ((x : Entry) → a x .id ≡ x .id) → ((x : Entry) → a x .service ≡ x .service)
       → y .control .turn ≡ turnOf d → (y .control .state ≡ 0 → ⊥) → Is (a e) y → Agrees (withPlace T (placeOf d) y) (goesOn L d a)
   agrees-altered d e y a there holds id own turn used is =
       agrees-on d e (a e) y (altered l d a) there holds (find-altered d a id l ∙ ap (mapped a) there) (find-altered-other d a id l)
       (distinct-altered d a id l (g .differ)) (entries-altered d a id own l) turn used (own e) is
-
-  pub agrees-same : (d : ℕ) (e : Entry) (y : Place) → find l d ≡ some e → Holds (placeAt T (placeOf d)) d e
-      → y .control .turn ≡ turnOf d → (y .control .state ≡ 0 → ⊥) → Is e y → Agrees (withPlace T (placeOf d) y) L
-  agrees-same d e y there holds turn used is =
-      agrees-on d e e y l there holds there (λ k n. refl) (g .differ) (λ s. refl) turn used refl is
 
   -- A DIALOGUE ENDS, and its place is freed
   pub agrees-ended : (d : ℕ) (e : Entry) → find l d ≡ some e → Holds (placeAt T (placeOf d)) d e

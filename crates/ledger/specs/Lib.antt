@@ -1,3 +1,5 @@
+pub mod Lookups
+pub mod Ours
 pub mod Entries
 pub mod Agrees
 pub mod Acting

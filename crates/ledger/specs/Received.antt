@@ -11,6 +11,7 @@ use borrow.Author.Tests.{eq-eqb, ne-eqb}
 use Rattle.laws.specs.If.{ifEq, ifB, lt, ge, eq, ne, yes, no, by-eq, by-b, was-eq, was-yes, true-false}
 use Rattle.laws.specs.Lists.{pad}
 use Rattle.paper.specs.declared.Message.{Message}
+use Rattle.paper.specs.declared.Invocation.{Invocation}
 use Rattle.paper.specs.declared.Control.{Control}
 use Rattle.paper.specs.declared.Row.{Row}
 use Rattle.paper.specs.Sizes.{placeOf, turnOf, localID}
@@ -24,7 +25,8 @@ use Rattle.paper.specs.Dialogues.{Place, freed, peerOf, emptyControl, withContr
 use Rattle.paper.specs.Calls.{Table, Out, placeAt, withPlace, guaranteeOf, limitOf, held, mayBegin, lowestFree, isFree, isDialogue, owns, octetsAt, destinationNumber, assigned, faultedAt, faulted, itemsOf, uniReceived, begunControl, beginAt, beginReceived, withPeer, continuedControl, continueReceived, endReceived, abortReceived, toDialogue, soundReceived, received}
 use Rattle.paper.specs.Contents.{Wire, contentOf}
 use Rattle.paper.specs.Counting.{isEnded}
-use Rattle.paper.specs.Ledger.{Entry, Ledger, find, goesOn, begins, ends, partnerIn, rejectsIn, answered, shown, aborting, forService, addressee, entriesOf, mayBeginIn, toEntry, causeOf, saidFor}
+use Rattle.paper.specs.Asked.{heardAll}
+use Rattle.paper.specs.Ledger.{Entry, Ledger, find, goesOn, begins, ends, partnerIn, componentsIn, rejectsIn, answered, shown, aborting, forService, addressee, entriesOf, mayBeginIn, toEntry, causeOf, saidFor}
 use Rattle.messages.specs.Bounds.{MessageIn, message-in}
 use Rattle.readback.specs.Contents.{nothing-content, cause-abort-fits, cause-abort-content}
 use Rattle.facts.specs.Fine.{Octets, FineControl, Fine}
@@ -35,6 +37,7 @@ use Rattle.facts.specs.Owners.{Owned, owned-is}
 use Rattle.kept.specs.Counted.{row-ended}
 use Rattle.kept.specs.Shared.{lowest-there}
 use Rattle.kept.specs.Steps.{assigned-is, items-readable, origin-length, begun-control-fine, continued-fine}
+use Rattle.ledger.specs.Ours.{Ours, ours-none, ours-heard}
 use Rattle.ledger.specs.Agrees.{waits, Is, Holds, At, Agrees, owned-found, agrees-altered, agrees-ended, agrees-begun}
 use Rattle.ledger.specs.Acting.{AllLeft, all-left}
 use Rattle.ledger.specs.Read.{message-read}
@@ -42,7 +45,8 @@ use Rattle.ledger.specs.Read.{message-read}
 -- THE ROWS' WAY through the ledger
 module _ (L : Ledger) (service : ℕ) (s : List ℕ) (r : Row) (rows : List Row) where
   shown-begin : r .kind ≡ rowBegin → shown L service s (r ∷ rows)
-      ≡ begins L (record { id = r .dialogue; service = service; state = 3; peer = partnerIn s; passed = []; rejects = rejectsIn rows })
+      ≡ begins L
+      (record { id = r .dialogue; service = service; state = 3; peer = partnerIn s; passed = []; rejects = rejectsIn rows; invocations = heardAll [] (componentsIn s) rows })
   unfolding shown
   shown-begin k = sym (eq _ _ _ _ k refl)
 
@@ -211,14 +215,23 @@ module _ (T : Table) (f : Fine T) (L : Ledger) (g : Agrees T L) (service : ℕ) 
         let c : Control = begunControl T service p s m in
         let id : ℕ = localID p (placeAt T p .control .turn) in
         let rows : List Row = componentRows id 8 c (itemsOf s m) in
-        let w = all-left id (itemsOf s m) (items-readable T f service s< s octets m in-s) c (begun-control-fine T f service s< s octets m in-s sound t p h) in
+        let k = begun-control-fine T f service s< s octets m in-s sound t p h in
+        let w = all-left id (itemsOf s m) (items-readable T f service s< s octets m in-s) c k in
         let peer : peerOf c ≡ origin = ap (λ (n : ℕ). take n (pad 4 origin)) (sym long) ∙ pad-rest 4 origin (omega (arith, long, in-s .origin .short)) .0 in
         is z (quiet _ _
         (subst (Agrees _) (sym (shown-begin L service s (dialogueRow rowBegin id noProblem (m .portion) _) rows refl))
         (agrees-begun T f L g p h (free-is (placeAt T p) (lowest-is-free T f h)) (f .each p h .control .turn)
-        (record { id = id; service = service; state = 3; peer = origin; passed = []; rejects = rejectsIn rows })
+        (record { id = id; service = service; state = 3; peer = origin; passed = []; rejects = rejectsIn rows; invocations = heardAll [] (itemsOf s m) rows })
         (record { control = allActed 8 c (itemsOf s m); waiting = [] }) refl (w .turn) (λ e. omega (arith, w .state))
-        (record { state = w .state; service = w .service; peer = w .peer ∙ peer; passed = refl; allowed = tt; rejects = w .waiting })))
+        (record {
+          state = w .state;
+          service = w .service;
+          peer = w .peer ∙ peer;
+          passed = refl;
+          allowed = tt;
+          rejects = w .waiting;
+          ours = ours-heard id 8 (omega arith) (itemsOf s m) (items-readable T f service s< s octets m in-s) c k [] ours-none;
+        })))
         noProblem (omega arith) (cause-begin t noProblem (yes _ _ _ (sym may-is ∙ may) refl))))
         (λ may z. is z (faulted-heard 4 (omega arith) (cause-begin t 4 (no _ _ _ (sym may-is ∙ may) refl))))
 
@@ -246,6 +259,7 @@ module _ (T : Table) (f : Fine T) (L : Ledger) (g : Agrees T L) (service : ℕ) 
           → (continuedControl (there .control) s m .turn ≡ there .control .turn) × (continuedControl (there .control) s m .state ≡ 4)
           × (continuedControl (there .control) s m .service ≡ there .control .service)
           × (peerOf (continuedControl (there .control) s m) ≡ ifEq (e .state) 2 origin (e .peer)) × (waits (continuedControl (there .control) s m) ≡ waits (there .control))
+          × (continuedControl (there .control) s m .invocations ≡ there .control .invocations)
       unfolding continuedControl
       continued n t =
           by-eq {r = continuedControl (there .control) s m} _ _ _ _ refl
@@ -255,6 +269,7 @@ module _ (T : Table) (f : Fine T) (L : Ledger) (g : Agrees T L) (service : ℕ) 
             refl,
             ap (λ (k : ℕ). take k (pad 4 origin)) (sym long) ∙ pad-rest 4 origin (omega (arith, long, in-s .origin .short)) .0 ∙ eq _ _ _ _ (sym (w .holds .is .state) ∙ q) refl,
             refl,
+            refl,
           ))
           (λ q z. subst Fits (sym z) (
             refl,
@@ -262,11 +277,12 @@ module _ (T : Table) (f : Fine T) (L : Ledger) (g : Agrees T L) (service : ℕ) 
             refl,
             w .holds .is .peer ∙ ne _ _ _ _ (λ i. q (w .holds .is .state ∙ i)) refl,
             refl,
+            refl,
           ))
         where
           Fits : Control → Type 0
           Fits d = (d .turn ≡ there .control .turn) × (d .state ≡ 4) × (d .service ≡ there .control .service)
-              × (peerOf d ≡ ifEq (e .state) 2 origin (e .peer)) × (waits d ≡ waits (there .control))
+              × (peerOf d ≡ ifEq (e .state) 2 origin (e .peer)) × (waits d ≡ waits (there .control)) × (d .invocations ≡ there .control .invocations)
 
           active : (n : ℕ) → n < 5 → (n ≡ 0 → ⊥) → (n ≡ 1 → ⊥) → (n ≡ 2 → ⊥) → (n ≡ 3 → ⊥) → n ≡ 4
           active n h a b c d = omega arith
@@ -290,6 +306,8 @@ module _ (T : Table) (f : Fine T) (L : Ledger) (g : Agrees T L) (service : ℕ) 
             passed = w .holds .is .passed;
             allowed = w .holds .is .allowed;
             rejects = v .waiting ∙ ap (λ (l : List Written). l ++ rejectsIn rows) (k .4 ∙ w .holds .is .rejects);
+            ours = ours-heard me 8 (omega arith) (itemsOf s m) (items-readable T f service s< s octets m in-s) c fine (e .invocations)
+                (subst (λ (l : List Invocation). Ours l (e .invocations)) (sym (k .5)) (w .holds .is .ours));
           })))
           noProblem (omega arith) (no-cause (λ _. n))
 

@@ -9,29 +9,34 @@ use lib.ListN.{length, length-append}
 use lib.Seq.{length-take-le}
 use borrow.Author.Tests.{eq-eqb, ne-eqb}
 use Rattle.laws.specs.If.{ifLt, ifEq, ifB, eq, ne, yes, no, by-eq, by-b, was-eq, was-ge, was-yes, either-eq, true-false}
-use Rattle.laws.specs.Lists.{every}
+use Rattle.laws.specs.Lists.{every, firstAt, first-le}
+use Rattle.paper.specs.declared.Invocation.{Invocation}
 use Rattle.paper.specs.declared.Control.{Control}
 use Rattle.paper.specs.Sizes.{placeOf, turnOf, idOctets}
 use Rattle.paper.specs.Elements.{headAt, frameAt, tagEnd}
 use Rattle.paper.specs.Problems.{kindOf, noProblem}
 use Rattle.paper.specs.Components.{tagAt, componentAt, items, components}
 use Rattle.paper.specs.Writing.{Written, octetsOf, joined, beginOctets, continueOctets, endOctets, uniOctets, userAbortOctets}
-use Rattle.paper.specs.Invocations.{toIdle, passed}
+use Rattle.paper.specs.Invocations.{noInvocation, isIdle, idleSlot, inState, toIdle, passed}
 use Rattle.paper.specs.Messages.{abortTag, beginTag, continueTag, endTag, uniTag}
-use Rattle.paper.specs.Dialogues.{Place, Request, withControl, freed, rejectedBy, peerOf, waitingRejects, sentComponents, afterSending, needsPeer, ofClass4, uniRefusal, abortRefusal, abortMessage, refusal, does}
+use Rattle.paper.specs.Dialogues.{Place, Request, withControl, freed, invokeRefusal, rejectRefusal, rejectedBy, peerOf, waitingRejects, sentComponents, afterSending, needsPeer, ofClass4, uniRefusal, abortRefusal, abortMessage, refusal, does}
 use Rattle.paper.specs.Dialogues.Request.{Invoke, Result, Error, UserReject, Cancel, Begin, Continue, End, Prearranged, Abort, Unidirectional, Timeout, RejectTimeout, NoReaction}
 use Rattle.paper.specs.Calls.{Table, placeAt, withPlace}
 use Rattle.paper.specs.Rules.{hasPeer}
 use Rattle.paper.specs.Outcome.{spacesOf}
 use Rattle.paper.specs.Contents.{Wire, contentOf}
-use Rattle.paper.specs.Ledger.{Entry, Ledger, find, goes, passes, sends, goesOn, ends, noted, sending, aborting, saidBy, saidOf}
+use Rattle.paper.specs.Asked.{becomes, newOne, userRejects}
+use Rattle.paper.specs.Ledger.{Entry, Ledger, find, goes, passes, idles, unmoved, sends, goesOn, ends, noted, sending, aborting, saidBy, saidOf}
 use Rattle.readback.specs.Written.{Allowed, AllAllowed}
 use Rattle.readback.specs.Contents.{nothing-content, begin-fits, begin-content, continue-fits, continue-content, end-fits, end-content, uni-fits, uni-content, user-abort-fits, user-abort-content}
 use Rattle.facts.specs.Fine.{FineControl, FinePlace, Fine}
 use Rattle.kept.specs.Leaves.{whether-eq}
-use Rattle.kept.specs.Requests.{Formed, requestOf, passed-taken}
+use Rattle.kept.specs.Controls.{passed-fine, to-idle-fine}
+use Rattle.kept.specs.Requests.{Formed, requestOf, passed-taken, invoke-told, reject-told, rejected-by-stays}
+use Rattle.ledger.specs.Lookups.{idle-lookup, passed-lookup, rejected-lookup}
+use Rattle.ledger.specs.Ours.{Ours, ours-turned}
 use Rattle.ledger.specs.Entries.{find-id}
-use Rattle.ledger.specs.Agrees.{Is, Holds, Agrees, agrees-altered, agrees-same, agrees-ended}
+use Rattle.ledger.specs.Agrees.{Is, Holds, Agrees, agrees-altered, agrees-ended}
 use Rattle.ledger.specs.Acting.{Alike, alike-self, alike-waits, idle-alike, state-alike}
 use Rattle.ledger.specs.Sending.{joined-more, allowed-append, goes-is, sent-is, sent-turn, goes-allowed, goes-few}
 
@@ -42,6 +47,18 @@ passed-alike c id class = record { turn = refl; state = refl; service = refl; pe
 rejected-alike : (c : Control) (id p : ℕ) → Alike c (rejectedBy c id p)
 unfolding rejectedBy
 rejected-alike c id p = whether-eq (Alike c) _ _ _ _ (alike-self c) (state-alike c id 4)
+
+-- an invoke that isn't refused by 10 has a slot
+invoke-room : (x : Place) (id linked class : ℕ) (op par : List ℕ) → invokeRefusal x id linked class op par ≡ 0 → length (x .control .invocations) ≡ 8 → idleSlot (x .control .invocations) < 8
+unfolding invokeRefusal idleSlot
+invoke-room x id linked class op par e h =
+    let a = was-ge _ _ _ _ (sym e) (λ z. omega arith) in
+    let b = was-ge _ _ _ _ (a .1) (λ z. omega arith) in
+    let c = was-eq _ _ _ _ (b .1) (λ z. omega arith) in
+    by-eq _ _ _ _ (c .1) (λ z w. absurd (omega arith)) (λ z w. less (firstAt isIdle (x .control .invocations)) (first-le isIdle noInvocation (x .control .invocations)) z)
+  where
+    less : (n : ℕ) → n ≤ length (x .control .invocations) → (n ≡ 8 → ⊥) → n < 8
+    less n a b = omega arith
 
 -- THE PEER'S ID: "1 to 4 octets in Received and Active", where Continue isn't refused
 peer-told : (x : Place) → (needsPeer x ≡ 0 → hasPeer (x .control .state) ≡ true) × ((needsPeer x ≡ 0 → ⊥) → hasPeer (x .control .state) ≡ false)
@@ -103,10 +120,10 @@ module _ (T : Table) (f : Fine T) (L : Ledger) (g : Agrees T L) (d : ℕ) (e : E
   own-id = find-id (L .dialogues) d e there
 
   -- a component passed
-  passes-on : (v : Written) (c : Control) → Alike (x .control) c → Allowed v
-      → Agrees (withPlace T p (record { control = c; waiting = x .waiting ++ octetsOf v })) (goesOn L d (passes v))
-  passes-on v c a w =
-      agrees-altered T f L g d e _ (passes v) there holds (λ _. refl) (λ _. refl) (a .turn ∙ holds .turn) (λ z. holds .used (sym (a .state) ∙ z))
+  passes-on : (v : Written) (h : List Invocation → List Invocation) (c : Control) → Alike (x .control) c → Allowed v → Ours (c .invocations) (h (e .invocations))
+      → Agrees (withPlace T p (record { control = c; waiting = x .waiting ++ octetsOf v })) (goesOn L d (passes v h))
+  passes-on v h c a w ours =
+      agrees-altered T f L g d e _ (passes v h) there holds (λ _. refl) (λ _. refl) (a .turn ∙ holds .turn) (λ z. holds .used (sym (a .state) ∙ z))
       (record {
         state = a .state ∙ is .state;
         service = a .service ∙ is .service;
@@ -114,13 +131,14 @@ module _ (T : Table) (f : Fine T) (L : Ledger) (g : Agrees T L) (d : ℕ) (e : E
         passed = ap (λ (l : List ℕ). l ++ octetsOf v) (is .passed) ∙ sym (joined-more (e .passed) v);
         allowed = allowed-append (e .passed) (v ∷ []) (is .allowed) (w, tt);
         rejects = alike-waits a ∙ is .rejects;
+        ours = ours;
       })
 
   -- an invocation that goes to Idle
-  goes-idle : (id : ℕ) → Agrees (withPlace T p (withControl x (toIdle (x .control) id))) L
+  goes-idle : (id : ℕ) → Agrees (withPlace T p (withControl x (toIdle (x .control) id))) (goesOn L d (idles id))
   goes-idle id =
       let a = idle-alike (x .control) id in
-      agrees-same T f L g d e _ there holds (a .turn ∙ holds .turn) (λ z. holds .used (sym (a .state) ∙ z))
+      agrees-altered T f L g d e _ (idles id) there holds (λ _. refl) (λ _. refl) (a .turn ∙ holds .turn) (λ z. holds .used (sym (a .state) ∙ z))
       (record {
         state = a .state ∙ is .state;
         service = a .service ∙ is .service;
@@ -128,12 +146,13 @@ module _ (T : Table) (f : Fine T) (L : Ledger) (g : Agrees T L) (d : ℕ) (e : E
         passed = is .passed;
         allowed = is .allowed;
         rejects = alike-waits a ∙ is .rejects;
+        ours = ours-turned id noInvocation (is .ours) (to-idle-fine (x .control) (fine .control) id .invocations) (idle-lookup (x .control) (fine .control) id);
       })
 
   -- a sending
   sends-on : (state : ℕ) → 0 < state → Agrees (withPlace T p (afterSending x state)) (goesOn L d (sends state))
   sends-on state h =
-      let w = sent-is e x is state in
+      let w = sent-is e x is fine state in
       agrees-altered T f L g d e _ (sends state) there holds (λ _. refl) (λ _. refl) (sent-turn e x is state ∙ holds .turn) (λ z. omega (arith, w .state)) w
 
   freed-on : Agrees (withPlace T p (freed x)) (ends L d)
@@ -228,20 +247,39 @@ module _ (T : Table) (f : Fine T) (L : Ledger) (g : Agrees T L) (d : ℕ) (e : E
   passing : (class : ℕ) (v : Written) → Formed (requestOf class v) → refusal x (requestOf class v) ≡ 0 → Allowed v
   passing class v w n = passed-taken x class v w n .0
 
+  -- a new invocation; one that is rejected
+  invokes-ours : (id linked class : ℕ) (op par : List ℕ) → Formed (Invoke id linked class op par) → invokeRefusal x id linked class op par ≡ 0
+      → Ours (passed (x .control) id class .invocations) (becomes (e .invocations) id (newOne id class))
+  invokes-ours id linked class op par w n =
+      let t = invoke-told x id linked class op par (w .0) (w .1) n in
+      let k = invoke-room x id linked class op par n in
+      ours-turned id (newOne id class) (is .ours) (passed-fine (x .control) (fine .control) id class (t .2) (t .0) (t .1) .invocations)
+      (passed-lookup (x .control) (fine .control) id class (t .2) (k (fine .control .eight)))
+
+  rejects-ours : (id q : ℕ) → id < 256 → rejectRefusal x id q ≡ 0 → Ours (rejectedBy (x .control) id q .invocations) (userRejects (e .invocations) id q)
+  unfolding userRejects
+  rejects-ours id q w n =
+      let t = reject-told x id q (omega arith) n in
+      subst (λ (v : Invocation). Ours (rejectedBy (x .control) id q .invocations) (becomes (e .invocations) id (ifEq (kindOf q) 1 v (inState v 4)))) (is .ours .same id)
+      (ours-turned id _ (is .ours) (rejected-by-stays x fine (holds .used) id q (t .0) .fine .invocations) (rejected-lookup (x .control) (fine .control) id q (t .0)))
+
   pub does-done : (r : Request) → Formed r → refusal x r ≡ 0 → D r (does d x r .place) (does d x r .message)
   unfolding does refusal octetsOf
   does-done (Invoke id linked class op par) w n =
       let v : Written = Written.Invoke id linked op par in
-      quiet (Invoke id linked class op par) _ refl (passes-on v (passed (x .control) id class) (passed-alike (x .control) id class) (passing class v w n))
+      quiet (Invoke id linked class op par) _ refl
+      (passes-on v (λ l. becomes l id (newOne id class)) (passed (x .control) id class) (passed-alike (x .control) id class) (passing class v w n)
+      (invokes-ours id linked class op par w n))
   does-done (Result tag id op par) w n =
       let v : Written = Written.Result tag id op par in
-      quiet (Result tag id op par) _ refl (passes-on v (x .control) (alike-self (x .control)) (passing 0 v w n))
+      quiet (Result tag id op par) _ refl (passes-on v unmoved (x .control) (alike-self (x .control)) (passing 0 v w n) (is .ours))
   does-done (Error id err par) w n =
       let v : Written = Written.Error id err par in
-      quiet (Error id err par) _ refl (passes-on v (x .control) (alike-self (x .control)) (passing 0 v w n))
+      quiet (Error id err par) _ refl (passes-on v unmoved (x .control) (alike-self (x .control)) (passing 0 v w n) (is .ours))
   does-done (UserReject id q) w n =
       let v : Written = Written.Reject id q in
-      quiet (UserReject id q) _ refl (passes-on v (rejectedBy (x .control) id q) (rejected-alike (x .control) id q) (passing 0 v w n))
+      quiet (UserReject id q) _ refl
+      (passes-on v (λ l. userRejects l id q) (rejectedBy (x .control) id q) (rejected-alike (x .control) id q) (passing 0 v w n) (rejects-ours id q w n))
   does-done (Cancel id) w n = quiet (Cancel id) _ refl (goes-idle id)
   does-done Begin w n = begin-done
   does-done Continue w n = continue-done n

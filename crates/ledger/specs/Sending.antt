@@ -13,9 +13,11 @@ use Rattle.paper.specs.declared.Control.{Control}
 use Rattle.paper.specs.Writing.{Written, octetsOf, joined, rejectOctets}
 use Rattle.paper.specs.Dialogues.{Place, noReject, allRejects, waitingRejects, rejectsFit, sentComponents, afterSending, withState, withoutRejects, peerOf}
 use Rattle.paper.specs.Invocations.{allTransmitted}
+use Rattle.paper.specs.Asked.{allSent}
 use Rattle.paper.specs.Ledger.{Entry, fit, goes, stays, sends}
 use Rattle.readback.specs.Written.{Allowed, AllAllowed}
 use Rattle.facts.specs.Fine.{FineReject, FinePlace}
+use Rattle.ledger.specs.Ours.{Ours, ours-sent}
 use Rattle.ledger.specs.Agrees.{rejectOf, waits, Is}
 
 -- one after another
@@ -65,17 +67,18 @@ module _ (e : Entry) (x : Place) (w : Is e x) where
       (λ b z. z ∙ w .passed ∙ ap joined (no _ _ _ (sym fit-is ∙ b) refl))
 
   -- its entry afterwards
-  pub sent-is : (state : ℕ) → Is (sends state e) (afterSending x state)
+  pub sent-is : FinePlace x → (state : ℕ) → Is (sends state e) (afterSending x state)
   unfolding afterSending allTransmitted stays joined
-  sent-is state =
+  sent-is f state =
+      let ours = ours-sent (x .control) (f .control) (e .invocations) (w .ours) in
       by-b {r = afterSending x state .control} _ _ _ refl
-      (λ b z. left (withoutRejects (allTransmitted (withState (x .control) state))) z refl refl refl (yes _ _ _ (sym fit-is ∙ b) refl))
-      (λ b z. left (allTransmitted (withState (x .control) state)) z refl refl refl (w .rejects ∙ no _ _ _ (sym fit-is ∙ b) refl))
+      (λ b z. left (withoutRejects (allTransmitted (withState (x .control) state))) z refl refl refl (yes _ _ _ (sym fit-is ∙ b) refl) ours)
+      (λ b z. left (allTransmitted (withState (x .control) state)) z refl refl refl (w .rejects ∙ no _ _ _ (sym fit-is ∙ b) refl) ours)
     where
       left : (c : Control) → afterSending x state .control ≡ c → c .state ≡ state → c .service ≡ x .control .service → peerOf c ≡ peerOf (x .control)
-          → waits c ≡ stays e → Is (sends state e) (afterSending x state)
-      left c z a b p q = subst (λ (d : Control). Is (sends state e) (record { control = d; waiting = [] })) (sym z)
-          (record { state = a; service = b ∙ w .service; peer = p ∙ w .peer; passed = refl; allowed = tt; rejects = q })
+          → waits c ≡ stays e → Ours (c .invocations) (allSent (e .invocations)) → Is (sends state e) (afterSending x state)
+      left c z a b p q ours = subst (λ (d : Control). Is (sends state e) (record { control = d; waiting = [] })) (sym z)
+          (record { state = a; service = b ∙ w .service; peer = p ∙ w .peer; passed = refl; allowed = tt; rejects = q; ours = ours })
 
   pub sent-turn : (state : ℕ) → afterSending x state .control .turn ≡ x .control .turn
   unfolding afterSending allTransmitted
@@ -95,6 +98,11 @@ module _ (e : Entry) (x : Place) (w : Is e x) where
     unfolding goes fit
     goes-few =
         by-b {r = goes e} _ _ _ refl
-        (λ b z. omega (arith, ap (λ (l : List Written). length (joined l)) z, ap length (joined-append (e .passed) (e .rejects)),
-        length-append (joined (e .passed)) (joined (e .rejects)), leb-true (length (joined (e .passed)) + length (joined (e .rejects))) 240 b))
+        (λ b z. omega (
+          arith,
+          ap (λ (l : List Written). length (joined l)) z,
+          ap length (joined-append (e .passed) (e .rejects)),
+          length-append (joined (e .passed)) (joined (e .rejects)),
+          leb-true (length (joined (e .passed)) + length (joined (e .rejects))) 240 b,
+        ))
         (λ b z. omega (arith, ap (λ (l : List Written). length (joined l)) z, ap length (w .passed), f .room))

@@ -16,7 +16,7 @@ use Rattle.paper.specs.Calls.{Table, Out, placeAt, withPlace, lowestFree, store
 use Rattle.paper.specs.Calls.Call.{Open, OnDialogue, Receive}
 use Rattle.paper.specs.Outcome.{spacesOf, spacesFor}
 use Rattle.paper.specs.Contents.{contentOf}
-use Rattle.paper.specs.Ledger.{Entry, Ledger, newLedger, find, entriesOf, playedBy, said}
+use Rattle.paper.specs.Ledger.{Entry, Ledger, newLedger, find, entriesOf, noted, playedBy, said, endedIn}
 use Rattle.readback.specs.Contents.{nothing-content}
 use Rattle.facts.specs.Fine.{Fine}
 use Rattle.facts.specs.Slots.{free-is}
@@ -26,8 +26,9 @@ use Rattle.kept.specs.Shared.{lowest-there}
 use Rattle.kept.specs.Requests.{Formed}
 use Rattle.kept.specs.Steps.{WellFormed, does-answers}
 use Rattle.kept.specs.Fresh.{none-held}
-use Rattle.ledger.specs.Agrees.{At, endedIn, Agrees, owned-found, agrees-begun}
-use Rattle.ledger.specs.Requests.{does-done}
+use Rattle.ledger.specs.Ours.{ours-none}
+use Rattle.ledger.specs.Agrees.{At, Agrees, owned-found, agrees-begun}
+use Rattle.ledger.specs.Requests.{Done as Answered, does-done}
 use Rattle.ledger.specs.Received.{received-heard}
 
 -- A FRESH TABLE and an empty ledger
@@ -68,9 +69,9 @@ module _ (T : Table) (f : Fine T) (L : Ledger) (g : Agrees T L) where
       let t : ℕ = placeAt T p .control .turn in
       record {
         agrees = agrees-begun T f L g p h (free-is (placeAt T p) (lowest-is-free T f h)) (f .each p h .control .turn)
-            (record { id = localID p t; service = service; state = 1; peer = []; passed = []; rejects = [] })
+            (record { id = localID p t; service = service; state = 1; peer = []; passed = []; rejects = []; invocations = [] })
             (record { control = begun t 1 service 0 (replicate 4 0); waiting = [] }) refl refl (λ e. omega arith)
-            (record { state = refl; service = refl; peer = refl; passed = refl; allowed = tt; rejects = refl });
+            (record { state = refl; service = refl; peer = refl; passed = refl; allowed = tt; rejects = refl; ours = ours-none });
         says = nothing-content;
         fits = omega arith;
       }))
@@ -89,12 +90,12 @@ module _ (T : Table) (f : Fine T) (L : Ledger) (g : Agrees T L) where
       x : Place
       x = placeAt T (placeOf d)
 
-      go : (n : ℕ) → refusal x r ≡ n → (refusal x r ≡ 0 → Rattle.ledger.specs.Requests.Done T L d r (does d x r .place) (does d x r .message))
+      go : (n : ℕ) → refusal x r ≡ n → (refusal x r ≡ 0 → Answered T L d r (does d x r .place) (does d x r .message))
           → Done c (stored T (placeOf d) (unlessRefused n x (does d x r)))
       go (suc n) e k = refused c n refl
       go zero e k = λ _.
           record {
-            agrees = subst (λ (U : Table). Agrees U (Rattle.paper.specs.Ledger.noted L d r)) (eq _ _ _ _ (does-answers d x r) refl) (k e .agrees);
+            agrees = subst (λ (U : Table). Agrees U (noted L d r)) (eq _ _ _ _ (does-answers d x r) refl) (k e .agrees);
             says = k e .says;
             fits = k e .fits;
           }

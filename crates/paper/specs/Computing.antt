@@ -16,6 +16,7 @@ use Rattle.paper.specs.Calls.{Table, Call, Out, isFree, isOf, held, mayB
 use Rattle.paper.specs.Counting.{isEnded}
 use Rattle.paper.specs.Rules.{hasPeer, isSoundItem}
 use Rattle.paper.specs.Contents.{Wire, partsOf, messageIn, contentOf}
+use Rattle.paper.specs.Asked.{oursOf, becomes, userRejects, allSent, releases, faultHeard, rejectHeard, heardOf, heardAll}
 use Rattle.paper.specs.Ledger.{Ledger, Told, find, altered, removed, fit, goes, stays, unsigned, rejectsIn, answered, shown, played, forService, addressee, isEntryOf, entriesOf, mayBeginIn, toEntry, causeOf, saidFor, said}
 use Rattle.paper.specs.Readers.{parameterOf, parameterAt, parameter, soundItems, itemsBy, messageItems}
 
@@ -29,7 +30,7 @@ unfolding computed isSoundItem partsOf messageIn contentOf
 booked s = contentOf s
 
 unfoldable pub noted : Ledger → Call → Told → Ledger
-unfolding computed isEnded find altered removed octetsOf joined fit goes stays unsigned rejectsIn answered shown played
+unfolding computed isEnded oursOf becomes userRejects allSent releases faultHeard rejectHeard heardOf heardAll find altered removed octetsOf joined fit goes stays unsigned rejectsIn answered shown played
 noted L c t = played L c t
 
 unfoldable pub heard : Ledger → Call → Wire

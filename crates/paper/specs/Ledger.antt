@@ -9,24 +9,27 @@ use lib.Dec.{leb}
 use Rattle.laws.specs.If.{ifLt, ifEq, ifB}
 use Rattle.laws.specs.Sums.{sumBy}
 use Rattle.paper.specs.declared.Message.{Message}
+use Rattle.paper.specs.declared.Invocation.{Invocation}
 use Rattle.paper.specs.declared.Row.{Row}
-use Rattle.paper.specs.Sizes.{placesInAll, services, mostWaiting, idOctets}
+use Rattle.paper.specs.Sizes.{placesInAll, services, mostWaiting, placeOf, idOctets}
 use Rattle.paper.specs.Problems.{noProblem}
-use Rattle.paper.specs.Components.{noID}
+use Rattle.paper.specs.Components.{Item, noID}
 use Rattle.paper.specs.Messages.{messageOf, isSound, uniTag, beginTag, endTag, continueTag, abortTag}
 use Rattle.paper.specs.Writing.{Written, joined}
 use Rattle.paper.specs.Rows.{rowBegin, rowContinue, rowRejected}
 use Rattle.paper.specs.Shares.{gives}
 use Rattle.paper.specs.Dialogues.{Request, dialogueOpen, dialogueSent, dialogueReceived, dialogueActive}
 use Rattle.paper.specs.Dialogues.Request.{Invoke, Result, Error, UserReject, Cancel, Begin, Continue, End, Prearranged, Abort, Unidirectional, Timeout, RejectTimeout, NoReaction}
-use Rattle.paper.specs.Calls.{Call, octetsAt, destinationNumber}
+use Rattle.paper.specs.Calls.{Call, octetsAt, destinationNumber, itemsOf}
 use Rattle.paper.specs.Calls.Call.{Open, OnDialogue, Receive}
 use Rattle.paper.specs.Counting.{isEnded}
 use Rattle.paper.specs.Rules.{hasPeer}
+use Rattle.paper.specs.Invocations.{noInvocation}
 use Rattle.paper.specs.Contents.{Content, Wire}
+use Rattle.paper.specs.Asked.{becomes, newOne, userRejects, allSent, heardAll}
 
 -- A DIALOGUE: the local ID that an open or a BEGIN row told, its service and state; the partner's ID (of the Begin received, or of the
--- first Continue); the components passed and not yet sent; the rejects shown in rows 13 and not yet sent
+-- first Continue); the components passed and not yet sent; the rejects shown in rows 13 and not yet sent; our invocations in use
 pub record Entry : Type 0 where
   pub id : ℕ
   pub service : ℕ
@@ -34,6 +37,7 @@ pub record Entry : Type 0 where
   pub peer : List ℕ
   pub passed : List Written
   pub rejects : List Written
+  pub invocations : List Invocation
 
 -- the shares that fresh was given, the dialogues that are open, the IDs of those that ended
 pub record Ledger : Type 0 where
@@ -67,16 +71,32 @@ goesOn L d f = record { guarantees = L .guarantees; limits = L .limits; dialogue
 abbrev pub ends : Ledger → ℕ → Ledger
 ends L d = record { guarantees = L .guarantees; limits = L .limits; dialogues = removed (L .dialogues) d; ended = d ∷ L .ended }
 
--- PASSED
-abbrev pub passes : Written → Entry → Entry
-passes w e = record {
+-- a component is PASSED, with what it makes of our invocations
+abbrev pub passes : Written → (List Invocation → List Invocation) → Entry → Entry
+passes w f e = record {
   id = e .id;
   service = e .service;
   state = e .state;
   peer = e .peer;
   passed = e .passed ++ (w ∷ []);
   rejects = e .rejects;
+  invocations = f (e .invocations);
 }
+
+-- "Timeout or cancel: Sent to Idle. .. Reject timeout: Wait to Idle."
+abbrev pub idles : ℕ → Entry → Entry
+idles id e = record {
+  id = e .id;
+  service = e .service;
+  state = e .state;
+  peer = e .peer;
+  passed = e .passed;
+  rejects = e .rejects;
+  invocations = becomes (e .invocations) id noInvocation;
+}
+
+abbrev pub unmoved : List Invocation → List Invocation
+unmoved l = l
 
 -- SENT: "waiting components in order, then all waiting rejects if the sum is at most 240, else they wait"
 unfoldable pub fit : Entry → Bool
@@ -96,23 +116,24 @@ sends state e = record {
   peer = e .peer;
   passed = [];
   rejects = stays e;
+  invocations = allSent (e .invocations);
 }
 
 -- A REQUEST OR TIMER EVENT answered 0. "Begin (to Sent) .. Continue (to Active)"; both ends, abort, Unidirectional and no-reaction free
 abbrev pub noted : Ledger → ℕ → Request → Ledger
-noted L d (Invoke id linked class op par) = goesOn L d (passes (Written.Invoke id linked op par))
-noted L d (Result tag id op par) = goesOn L d (passes (Written.Result tag id op par))
-noted L d (Error id err par) = goesOn L d (passes (Written.Error id err par))
-noted L d (UserReject id p) = goesOn L d (passes (Written.Reject id p))
-noted L d (Cancel id) = L
+noted L d (Invoke id linked class op par) = goesOn L d (passes (Written.Invoke id linked op par) (λ l. becomes l id (newOne id class)))
+noted L d (Result tag id op par) = goesOn L d (passes (Written.Result tag id op par) unmoved)
+noted L d (Error id err par) = goesOn L d (passes (Written.Error id err par) unmoved)
+noted L d (UserReject id p) = goesOn L d (passes (Written.Reject id p) (λ l. userRejects l id p))
+noted L d (Cancel id) = goesOn L d (idles id)
 noted L d Begin = goesOn L d (sends dialogueSent)
 noted L d Continue = goesOn L d (sends dialogueActive)
 noted L d End = ends L d
 noted L d Prearranged = ends L d
 noted L d (Abort portion) = ends L d
 noted L d Unidirectional = ends L d
-noted L d (Timeout id) = L
-noted L d (RejectTimeout id) = L
+noted L d (Timeout id) = goesOn L d (idles id)
+noted L d (RejectTimeout id) = goesOn L d (idles id)
 noted L d NoReaction = ends L d
 
 -- A RECEIVED MESSAGE. "invoke ID plus 128 (256 none)": the ID's octet again
@@ -127,6 +148,9 @@ rejectsIn (r ∷ rows) = ifEq (r .kind) rowRejected (Written.Reject (unsigned (r
 abbrev pub partnerIn : List ℕ → List ℕ
 partnerIn s = octetsAt s (messageOf s .origin)
 
+abbrev pub componentsIn : List ℕ → List Item
+componentsIn s = itemsOf s (messageOf s)
+
 -- "Continue in Sent stores the peer's ID and makes Active; later ones don't change it."
 unfoldable pub answered : List ℕ → List Row → Entry → Entry
 answered s rows e = record {
@@ -136,6 +160,7 @@ answered s rows e = record {
   peer = ifEq (e .state) dialogueSent (partnerIn s) (e .peer);
   passed = e .passed;
   rejects = e .rejects ++ rejectsIn rows;
+  invocations = heardAll (e .invocations) (componentsIn s) rows;
 }
 
 -- by its rows: the first is the dialogue's; "ended is .. a row 4, 5 or 6"
@@ -144,7 +169,15 @@ shown L service s [] = L
 shown L service s (r ∷ rows) =
     ifEq (r .kind) rowBegin
     (begins L
-    (record { id = r .dialogue; service = service; state = dialogueReceived; peer = partnerIn s; passed = []; rejects = rejectsIn rows }))
+    (record {
+      id = r .dialogue;
+      service = service;
+      state = dialogueReceived;
+      peer = partnerIn s;
+      passed = [];
+      rejects = rejectsIn rows;
+      invocations = heardAll [] (componentsIn s) rows;
+    }))
     (ifEq (r .kind) rowContinue (goesOn L (r .dialogue) (answered s rows)) (ifEq (isEnded r) 1 (ends L (r .dialogue)) L))
 
 -- A CALL, and what it told: a refusal changes nothing
@@ -155,12 +188,19 @@ pub record Told : Type 0 where
 
 abbrev pub playedBy : Ledger → Call → Told → Ledger
 playedBy L (Open service) t =
-    begins L (record { id = t .dialogue; service = service; state = dialogueOpen; peer = []; passed = []; rejects = [] })
+    begins L (record { id = t .dialogue; service = service; state = dialogueOpen; peer = []; passed = []; rejects = []; invocations = [] })
 playedBy L (OnDialogue service dialogue r) t = noted L dialogue r
 playedBy L (Receive service s) t = shown L service s (t .rows)
 
 unfoldable pub played : Ledger → Call → Told → Ledger
 played L c t = ifEq (t .answer) 0 (playedBy L c t) L
+
+-- how many of the dialogues that ended had a place: as often it was freed
+unfoldable pub hadPlace : ℕ → ℕ → ℕ
+hadPlace p d = ifEq (placeOf d) p 1 0
+
+unfoldable pub endedIn : ℕ → List ℕ → ℕ
+endedIn p l = sumBy (hadPlace p) l
 
 -- WHAT THE NEXT CALL'S MESSAGE HOLDS. A sending: what was passed, then the rejects
 abbrev pub sending : ℕ → List ℕ → List ℕ → Entry → Wire

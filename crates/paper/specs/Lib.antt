@@ -14,6 +14,7 @@ pub mod Layout
 pub mod Rules
 pub mod Readers
 pub mod Contents
+pub mod Asked
 pub mod Ledger
 pub mod Outcome
 pub mod Computing
