@@ -11,13 +11,18 @@ use mathlib.Core.Logic.{_⊎_, inl, inr, _↔_}
 use Prim.Native.Nat.{ℕ, zero, suc, _+_, _-_, _%_, _≤_, _<_}
 use native.Mathlib.Omega.{arith}
 use lib.ListN.{length, getD, length-take, length-drop}
-use Rattle.laws.specs.If.{ifB, eq, ne, yes, no, by-eq}
+use Rattle.laws.specs.If.{ifEq, ifB, eq, ne, yes, no, by-eq}
+use Rattle.paper.specs.declared.Invocation.{Invocation}
 use Rattle.paper.specs.declared.Row.{Row}
 use Rattle.paper.specs.Sizes.{placesInAll, services, placeOf, turnOf, idOctets}
 use Rattle.paper.specs.Shares.{gives, others, free}
 use Rattle.paper.specs.Messages.{messageOf, isSound, uniTag, beginTag}
 use Rattle.paper.specs.Rows.{rowBegin}
 use Rattle.paper.specs.Writing.{causeAbortOctets}
+use Rattle.paper.specs.Invocations.{sent, wait, invocationOf}
+use Rattle.paper.specs.Asked.{oursOf}
+use Rattle.paper.specs.Dialogues.{needs, refusal}
+use Rattle.paper.specs.Dialogues.Request.{Cancel, RejectTimeout}
 use Rattle.paper.specs.Calls.{Table, Call, Out, placeAt, guaranteeOf, limitOf, held, mayBegin, lowestFree, shows, octetsAt, numberAt, beginAt, step, freshTable}
 use Rattle.paper.specs.Calls.Call.{Open, OnDialogue, Receive}
 use Rattle.paper.specs.Layout.{encode, view}
@@ -34,14 +39,14 @@ use Rattle.kept.specs.Tables.{outcome-ready, ready-rules}
 use Rattle.shares.specs.Share.{Shares, Sound, below-given, refused-at-limit, refused-full, refused-why}
 use Rattle.kept.specs.Shared.{shares as fine-shares, sound as fine-sound}
 use Rattle.kept.specs.Fresh.{fresh-fine, fresh-none}
-use Rattle.ledger.specs.Agrees.{Holds, At, Agrees}
+use Rattle.ledger.specs.Agrees.{Holds, At, Agrees, holds-owns}
 use Rattle.ledger.specs.Steps.{fresh-agrees}
 use Rattle.ledger.specs.Homes.{Comes, rowFor, id-back, number-is, addressee-is, comes-home, comes-nowhere}
 use Rattle.demands.specs.Stands.{Stands, not-refused}
 use Rattle.demands.specs.Begins.{begin-step}
 use Rattle.demands.specs.History.{Made, gave, after, begunOf, endedOf, AllFormed, Reached, history, told, told-step}
 use Rattle.demands.specs.Booked.{ledgerOf, messageOut, heard, first-written, booked, Kept, kept, formed-append}
-use Rattle.demands.specs.Replies.{begun-told, asks, open-answer, stands-for, receive-answers, received-is}
+use Rattle.demands.specs.Replies.{begun-told, asks, open-answer, stands-for, receive-answers, received-is, request-answered}
 
 -- DEMAND 1: "a refusal changes no octet of table, rows or message space", for all octets, numbers and spaces lent
 pub refusal-changes-nothing : (l : Lent) (c : Call) → (outcome l c .answer ≡ 0 → ⊥) → outcome l c .lent ≡ l
@@ -108,16 +113,12 @@ module _ (t g l : List ℕ) (fresh : freshOutcome t g l .answer ≡ 0) (ms : Lis
       (booked (agreed .to) (agreed .fine) ledger (agreed .agrees) m w .fits)
 
   -- DEMAND 2, IDS COME HOME. A dialogue of the ledger stands under the ID that an open or a BEGIN row told
-  entry-holds : (d : ℕ) (e : Entry) → find (ledger .dialogues) d ≡ some e → placeOf d < 128
-  entry-holds d e q = go (find (ledger .dialogues) d) q (agreed .agrees .each d)
-    where
-      go : (x : Option Entry) → x ≡ some e → At (placeAt (agreed .to) (placeOf d)) d x → placeOf d < 128
-      go none z a = absurd (let y : _≡_ {A = ℕ} 0 1 = cc in omega arith)
-      go (some x) z a = a .small
+  entry-there : (d : ℕ) (e : Entry) → find (ledger .dialogues) d ≡ some e → Holds (placeAt (agreed .to) (placeOf d)) d e
+  entry-there d e q = subst (At (placeAt (agreed .to) (placeOf d)) d) q (agreed .agrees .each d)
 
   -- this ID, written as four octets, is read back as its number
   pub id-reads-back : (d : ℕ) (e : Entry) → find (ledger .dialogues) d ≡ some e → numberAt (idOctets d) 0 ≡ d
-  id-reads-back d e q = id-back d (let h = entry-holds d e q in omega arith)
+  id-reads-back d e q = id-back d (let h = entry-there d e q .small in omega arith)
 
   -- a sound Continue, End or Abort, of 1 to 512 octets, whose destination ID is the octets of an ID of ours; with spaces of the right sizes
   module _ (s : ℕ) (h : s < services) (msg rows space : List ℕ) (octets : Octets msg) (wide : 4096 ≤ length rows) (long : 272 ≤ length space) (some-octets : 0 < length msg) (few : length msg ≤ 512)
@@ -187,6 +188,29 @@ module _ (t g l : List ℕ) (fresh : freshOutcome t g l .answer ≡ 0) (ms : Lis
             let u = turn (some e) ledger (agreed .to) (agreed .agrees) q e refl in
             let v = turn (some x) later (k .to) (k .agrees) z x refl in
             absurd (omega (arith, u, v))
+
+  -- DEMAND 2, INVOCATIONS: their states, played over the calls and the rows of the components received, are those of the table
+  pub invocations-are : (d : ℕ) (e : Entry) → find (ledger .dialogues) d ≡ some e
+      → (k : ℕ) → invocationOf (placeAt (agreed .to) (placeOf d) .control .invocations) k ≡ oursOf (e .invocations) k
+  invocations-are d e q k = entry-there d e q .is .ours .same k
+
+  -- so a cancel is answered 0 exactly where the ledger's invocation is Sent, a reject timeout where it is in Wait; else 9
+  module _ (d : ℕ) (e : Entry) (q : find (ledger .dialogues) d ≡ some e) (h : e .service < services) (id : ℕ) (rows space : List ℕ) where
+    pub cancel-answered : gave (after start ms) (record { call = OnDialogue (e .service) d (Cancel id); rows = rows; space = space }) .answer
+        ≡ ifEq (oursOf (e .invocations) id .state) sent 0 9
+    unfolding refusal needs
+    cancel-answered =
+        ap (λ (x : List ℕ). gave x (record { call = OnDialogue (e .service) d (Cancel id); rows = rows; space = space }) .answer) (agreed .table)
+        ∙ request-answered (agreed .to) (agreed .fine) (e .service) d (Cancel id) rows space h (holds-owns (agreed .to) d e (entry-there d e q)) (omega arith) (omega arith)
+        ∙ ap (λ (v : Invocation). ifEq (v .state) sent 0 9) (invocations-are d e q id)
+
+    pub reject-timeout-answered : gave (after start ms) (record { call = OnDialogue (e .service) d (RejectTimeout id); rows = rows; space = space }) .answer
+        ≡ ifEq (oursOf (e .invocations) id .state) wait 0 9
+    unfolding refusal needs
+    reject-timeout-answered =
+        ap (λ (x : List ℕ). gave x (record { call = OnDialogue (e .service) d (RejectTimeout id); rows = rows; space = space }) .answer) (agreed .table)
+        ∙ request-answered (agreed .to) (agreed .fine) (e .service) d (RejectTimeout id) rows space h (holds-owns (agreed .to) d e (entry-there d e q)) (omega arith) (omega arith)
+        ∙ ap (λ (v : Invocation). ifEq (v .state) wait 0 9) (invocations-are d e q id)
 
   -- DEMAND 3. The shares that fresh was given
   abbrev pub guarantee : ℕ → ℕ

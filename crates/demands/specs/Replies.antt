@@ -2,20 +2,22 @@
 use mathlib.Core.Path.{_≡_, refl, sym, ap, subst, _∙_}
 use mathlib.Core.Bool.{Bool, true, false}
 use mathlib.Core.List.{List, []}
-use Prim.Native.Nat.{ℕ, _≤_, _<_}
+use Prim.Native.Nat.{ℕ, zero, suc, _≤_, _<_}
 use native.Mathlib.Omega.{arith}
 use lib.ListN.{length, getD}
 use Rattle.laws.specs.If.{ifEq, ifB, lt, eq, ne, ge, yes, no, by-eq, was-eq, was-yes}
-use Rattle.paper.specs.Sizes.{placesInAll, services}
+use Rattle.paper.specs.Sizes.{placesInAll, services, placeOf}
 use Rattle.paper.specs.Shares.{sharesFit}
 use Rattle.paper.specs.Messages.{messageOf}
-use Rattle.paper.specs.Calls.{Table, Out, mayBegin, opened, openedAt, lowestFree, refuse, received, receivedIf, step, freshTable}
-use Rattle.paper.specs.Calls.Call.{Open, Receive}
+use Rattle.paper.specs.Dialogues.{Place, Request, unlessRefused, refusal, does, request}
+use Rattle.paper.specs.Calls.{Table, Out, placeAt, mayBegin, owns, stored, requested, opened, openedAt, lowestFree, refuse, received, receivedIf, step, freshTable}
+use Rattle.paper.specs.Calls.Call.{Open, OnDialogue, Receive}
 use Rattle.paper.specs.Layout.{encode, view}
-use Rattle.paper.specs.Outcome.{Lent, Outcome, standing, spacesFor, noSpace, given, shown, outcome, freshAnswer, freshOutcome}
+use Rattle.paper.specs.Outcome.{Lent, Outcome, standing, spacesOf, spacesFor, noSpace, given, shown, outcome, freshAnswer, freshOutcome}
 use Rattle.facts.specs.Fine.{Fine}
 use Rattle.facts.specs.Whole.{view-encode}
 use Rattle.facts.specs.Ready.{encode-stands}
+use Rattle.kept.specs.Steps.{does-answers}
 use Rattle.demands.specs.Tails.{received-quiet}
 use Rattle.demands.specs.History.{Made, gave}
 
@@ -88,3 +90,28 @@ received-is T f s msg rows space a b h some few =
   where
     l : Lent
     l = record { table = encode T; rows = rows; space = space }
+
+-- A REQUEST OR TIMER EVENT on a service's dialogue, with spaces of the right sizes, is answered by its refusal
+pub request-answered : (T : Table) → Fine T → (s d : ℕ) (r : Request) (rows space : List ℕ) → s < services → owns T s d ≡ true
+    → spacesOf r .rows ≤ length rows → spacesOf r .space ≤ length space
+    → gave (encode T) (record { call = OnDialogue s d r; rows = rows; space = space }) .answer ≡ refusal (placeAt T (placeOf d)) r
+unfolding outcome standing step requested stored request
+request-answered T f s d r rows space h o a b =
+    ap (λ (n : ℕ). shown n l (step (view (encode T)) (OnDialogue s d r)) .answer)
+    (sym (eq _ _ _ _ (encode-stands T f .0) (ge _ _ _ _ a (ge _ _ _ _ b (yes _ _ _ (encode-stands T f .1) refl)))))
+    ∙ ap (λ (U : Table). shown 0 l (step U (OnDialogue s d r)) .answer) (view-encode T f)
+    ∙ shown-answer (step T (OnDialogue s d r))
+    ∙ sym (ap (λ (x : Out). x .answer) (lt {r = stored T (placeOf d) (request d x r)} _ _ _ _ h (yes _ _ _ o refl))) ∙ by (refusal x r)
+  where
+    l : Lent
+    l = record { table = encode T; rows = rows; space = space }
+
+    x : Place
+    x = placeAt T (placeOf d)
+
+    shown-answer : (o : Out) → shown 0 l o .answer ≡ o .answer
+    shown-answer o = by-eq {r = shown 0 l o} _ _ _ _ refl (λ a z. ap (λ (x : Outcome). x .answer) z ∙ sym a) (λ a z. ap (λ (x : Outcome). x .answer) z)
+
+    by : (n : ℕ) → unlessRefused n x (does d x r) .answer ≡ n
+    by zero = does-answers d x r
+    by (suc n) = refl

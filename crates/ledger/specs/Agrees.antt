@@ -7,15 +7,15 @@ use Prim.Native.Nat.{ℕ, zero, suc, _+_, _*_, _/_, _%_, _<_}
 use native.Mathlib.Omega.{arith}
 use lib.Dec.{eqb}
 use lib.ListN.{take}
-use borrow.Author.Tests.{eqb-true, eqb-false}
-use Rattle.laws.specs.If.{ifEq, eq, ne, by-eq}
+use borrow.Author.Tests.{eqb-true, eqb-false, eq-eqb, ne-eqb}
+use Rattle.laws.specs.If.{ifEq, lt, eq, ne, no}
 use Rattle.laws.specs.Sums.{sumBy}
 use Rattle.paper.specs.declared.Reject.{Reject}
 use Rattle.paper.specs.declared.Control.{Control}
 use Rattle.paper.specs.Sizes.{placeOf, turnOf, localID, nextTurn}
 use Rattle.paper.specs.Writing.{Written, joined}
 use Rattle.paper.specs.Dialogues.{Place, emptyPlace, freed, peerOf}
-use Rattle.paper.specs.Calls.{Table, placeAt, withPlace, isOf, held}
+use Rattle.paper.specs.Calls.{Table, placeAt, withPlace, isFree, isOf, held, isDialogue, owns}
 use Rattle.paper.specs.Ledger.{Entry, Ledger, hadPlace, endedIn, find, altered, removed, isEntryOf, entriesOf, begins, goesOn, ends}
 use Rattle.readback.specs.Written.{AllAllowed}
 use Rattle.facts.specs.Fine.{Fine}
@@ -61,6 +61,13 @@ pub record Agrees (T : Table) (L : Ledger) : Type 0 where
   pub differ : Distinct (L .dialogues)
   pub counts : (s : ℕ) → entriesOf (L .dialogues) s ≡ held (T .places) s
   pub turns : (p : ℕ) → p < 128 → placeAt T p .control .turn ≡ endedIn p (L .ended) % 16777216
+
+-- what a place holds under an ID is that service's dialogue
+pub holds-owns : (T : Table) (d : ℕ) (e : Entry) → Holds (placeAt T (placeOf d)) d e → owns T (e .service) d ≡ true
+unfolding owns isDialogue isFree
+holds-owns T d e h =
+    let x : Place = placeAt T (placeOf d) in
+    sym (lt _ _ _ _ (h .small) (no _ _ _ (ne-eqb (x .control .state) 0 (h .used)) (eq _ _ _ _ (h .is .service) (sym (eq-eqb (x .control .turn) (turnOf d) (h .turn))))))
 
 -- an ID is its place and turn
 pub id-is : (k d : ℕ) → placeOf k ≡ placeOf d → turnOf k ≡ turnOf d → k ≡ d

@@ -6,15 +6,13 @@ use mathlib.Core.List.{List, [], _∷_, _++_}
 use Prim.Native.Nat.{ℕ, _+_, _≤_, _<_}
 use native.Mathlib.Omega.{arith}
 use lib.ListN.{length, getD, take}
-use lib.Dec.{eqb}
-use borrow.Author.Tests.{eq-eqb, ne-eqb}
 use Rattle.laws.specs.If.{ifEq, ifB, lt, ge, eq, ne, yes, no, by-eq, by-b, was-eq, was-yes, true-false}
 use Rattle.laws.specs.Lists.{pad}
 use Rattle.paper.specs.declared.Message.{Message}
 use Rattle.paper.specs.declared.Invocation.{Invocation}
 use Rattle.paper.specs.declared.Control.{Control}
 use Rattle.paper.specs.declared.Row.{Row}
-use Rattle.paper.specs.Sizes.{placeOf, turnOf, localID}
+use Rattle.paper.specs.Sizes.{placeOf, localID}
 use Rattle.paper.specs.Problems.{noProblem}
 use Rattle.paper.specs.Components.{Item}
 use Rattle.paper.specs.Messages.{messageOf, isSound, isDropped, noRun, uniTag, beginTag, endTag, continueTag}
@@ -22,7 +20,7 @@ use Rattle.paper.specs.Writing.{Written, joined, causeAbortOctets}
 use Rattle.paper.specs.Rows.{dialogueRow, componentRows, allActed, rowUni, rowBegin, rowContinue, rowEnd, rowUserAbort, rowAbort}
 use Rattle.paper.specs.Shares.{gives}
 use Rattle.paper.specs.Dialogues.{Place, freed, peerOf, emptyControl, withControl}
-use Rattle.paper.specs.Calls.{Table, Out, placeAt, withPlace, guaranteeOf, limitOf, held, mayBegin, lowestFree, isFree, isDialogue, owns, octetsAt, destinationNumber, assigned, faultedAt, faulted, itemsOf, uniReceived, begunControl, beginAt, beginReceived, withPeer, continuedControl, continueReceived, endReceived, abortReceived, toDialogue, soundReceived, received}
+use Rattle.paper.specs.Calls.{Table, Out, placeAt, withPlace, guaranteeOf, limitOf, held, mayBegin, lowestFree, owns, octetsAt, destinationNumber, assigned, faultedAt, faulted, itemsOf, uniReceived, begunControl, beginAt, beginReceived, withPeer, continuedControl, continueReceived, endReceived, abortReceived, toDialogue, soundReceived, received}
 use Rattle.paper.specs.Contents.{Wire, contentOf}
 use Rattle.paper.specs.Counting.{isEnded}
 use Rattle.paper.specs.Asked.{heardAll}
@@ -38,7 +36,7 @@ use Rattle.kept.specs.Counted.{row-ended}
 use Rattle.kept.specs.Shared.{lowest-there}
 use Rattle.kept.specs.Steps.{assigned-is, items-readable, origin-length, begun-control-fine, continued-fine}
 use Rattle.ledger.specs.Ours.{Ours, ours-none, ours-heard}
-use Rattle.ledger.specs.Agrees.{waits, Is, Holds, At, Agrees, owned-found, agrees-altered, agrees-ended, agrees-begun}
+use Rattle.ledger.specs.Agrees.{waits, Is, Holds, At, Agrees, holds-owns, owned-found, agrees-altered, agrees-ended, agrees-begun}
 use Rattle.ledger.specs.Acting.{AllLeft, all-left}
 use Rattle.ledger.specs.Read.{message-read}
 
@@ -128,7 +126,7 @@ module _ (T : Table) (f : Fine T) (L : Ledger) (g : Agrees T L) (service : ℕ) 
       }))
 
   pub addressed-none : assigned T service s m ≡ false → addressee L service s m ≡ none
-  unfolding addressee forService assigned owns isDialogue isFree
+  unfolding addressee forService assigned
   addressed-none a = sym (by-eq {A = ℕ} (m .destination .length) 4 0 0 refl (λ n _. eq _ _ _ _ n (sym (at (find (L .dialogues) me) refl (g .each me) n))) (λ n _. ne _ _ _ _ n refl))
     where
       at : (x : Option Entry) → find (L .dialogues) me ≡ x → At there me x → m .destination .length ≡ 4 → forService service (find (L .dialogues) me) ≡ none
@@ -138,9 +136,7 @@ module _ (T : Table) (f : Fine T) (L : Ledger) (g : Agrees T L) (service : ℕ) 
           ∙ sym (by-eq {A = ℕ} (e .service) service 0 0 refl
           (λ i _. by-eq {A = ℕ} (e .state) 1 0 0 refl (λ j _. eq _ _ _ _ i (eq _ _ _ _ j refl))
           (λ j _. absurd (true-false
-          (eq _ _ _ _ n (yes _ _ _ (sym (lt _ _ _ _ (h .small) (no _ _ _ (ne-eqb (there .control .state) 0 (h .used))
-          (eq _ _ _ _ (h .is .service ∙ i) (sym (eq-eqb (there .control .turn) (turnOf me) (h .turn))))))) (ne _ _ _ _ (λ z. j (sym (h .is .state) ∙ z)) refl))
-          ∙ a))))
+          (eq _ _ _ _ n (yes _ _ _ (ap (λ (k : ℕ). owns T k me) (sym i) ∙ holds-owns T me e h) (ne _ _ _ _ (λ z. j (sym (h .is .state) ∙ z)) refl)) ∙ a))))
           (λ i _. ne _ _ _ _ i refl))
 
   -- AT NO FAULT, or dropped: nothing is written
