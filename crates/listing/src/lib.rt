@@ -125,7 +125,7 @@ fn taken(l: Listed, p: Piece, shown: bool) -> Listed
     }
 }
 
-// The components of a message, one after another: one reader stays on it, in a local.
+// "a reader that stays on one message and gives its components one after another" (01, "Rows"): one, in a local.
 pub fn components(msg: &[u8], shown: bool) -> Listed
     ensures { λ r. ⌜ r .count ≡ length (messageItems (now (msg .entry))) ⌝ }
 {
