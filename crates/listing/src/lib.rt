@@ -1,6 +1,10 @@
 // What a call or a reader gives, as text: a dialogue, a row, a component.
 ghost use Prim.Native.Nat.{_<_, _≤_};
+ghost use mathlib.Core.Path.{_≡_};
 ghost use lib.ListN.{length};
+ghost use Rattle.paper.specs.Readers.{messageItems};
+ghost use Rattle.reader.specs.Whole.{PieceFits};
+ghost use Rattle.listing.specs.Listed.{withPiece};
 use paper::Component;
 use paper::Row;
 use reader::Piece;
@@ -88,25 +92,52 @@ fn component_line(out: &mut [u8], at: usize, c: Component) -> usize
     text::put(out, f, b'\n')
 }
 
-// The component at a cursor; the next cursor, 0 for none.
-pub fn component(s: &[u8], k: usize) -> usize
-    ensures { λ r. ⌜ (0 < r → (k < r) × (r ≤ 525312)) ⌝ }
+// How far a message's components are listed: how many, the cursor that the last one gave, whether there may be more.
+pub struct Listed {
+    pub count: u64,
+    pub last: usize,
+    pub more: bool,
+}
+
+// With the piece that the reader gives; a line for a component, where it is to be shown.
+fn taken(l: Listed, p: Piece, shown: bool) -> Listed
+    requires { ⌜ (l .count ≤ 525312) × PieceFits (l .last) p ⌝ }
+    ensures { λ r. ⌜ r ≡ withPiece l p ⌝ }
 {
-    match reader::piece_at(s, k) {
+    match p {
         Piece::Part(at, c, next) => {
-            let mut out = [0u8; 256];
-            let n = component_line(&mut out, at, c);
-            text::say(&out, n);
-            next
+            if shown {
+                let mut out = [0u8; 256];
+                let n = component_line(&mut out, at, c);
+                text::say(&out, n);
+            }
+            Listed {
+                count: l.count + 1,
+                last: next,
+                more: true,
+            }
         }
-        Piece::End => 0,
+        Piece::End => Listed {
+            count: l.count,
+            last: l.last,
+            more: false,
+        },
     }
 }
 
-// The same without a line of text.
-pub fn next_cursor(s: &[u8], k: usize) -> usize {
-    match reader::piece_at(s, k) {
-        Piece::Part(_, _, next) => next,
-        Piece::End => 0,
+// "a reader that stays on one message and gives its components one after another" (01, "Rows"): one, in a local.
+pub fn components(msg: &[u8], shown: bool) -> Listed
+    ensures { λ r. ⌜ r .count ≡ length (messageItems (now (msg .entry))) ⌝ }
+{
+    let mut r = reader::new(msg);
+    let mut l = Listed {
+        count: 0,
+        last: 0,
+        more: true,
+    };
+    while l.more {
+        l = taken(l, reader::next(r), shown);
+        r = reader::moved(r, l.last);
     }
+    l
 }

@@ -81,19 +81,12 @@ fn fault_line(out: &mut [u8], at: usize, c: Component) -> usize
     text::put(out, e, b'\n')
 }
 
-// What stands at the cursor where the reader ended: nothing after the last component, else a syntax fault. An empty 6C is one.
-fn fault(s: &[u8], first: usize, last: usize)
-    requires { ⌜ length (now s) ≤ 512 ⌝ }
+// A syntax fault at a position, where the components end at lim.
+fn fault(s: &[u8], lim: usize, at: usize)
+    requires { ⌜ (length (now s) ≤ 512) × (at < 1024) ⌝ }
 {
-    let lim = last / 1024;
-    let at = last % 1024;
     if s.len() < lim {
         return;
-    }
-    if at >= lim {
-        if last != first {
-            return;
-        }
     }
     let c = components::component_at(s, lim, at);
     let mut out = [0u8; 256];
@@ -101,20 +94,23 @@ fn fault(s: &[u8], first: usize, last: usize)
     text::say(&out, n);
 }
 
-fn components(s: &[u8])
-    requires { ⌜ length (now s) ≤ 512 ⌝ }
+// Those that the reader gives, and what stands where it ended: nothing after the last one, else a syntax fault. An empty 6C is one.
+fn components(s: &[u8], m: Message)
+    requires { ⌜ (length (now s) ≤ 512) × MessageIn (length (now s)) m ⌝ }
 {
-    let first = reader::first_cursor(s);
-    if first == 0 {
+    if m.fault != 255 || m.from == 0 {
         return;
     }
-    let mut last = first;
-    let mut k = listing::component(s, first);
-    while k > 0 {
-        last = k;
-        k = listing::component(s, k);
+    let l = listing::components(s, true);
+    if l.last == 0 {
+        fault(s, m.to, m.from);
+        return;
     }
-    fault(s, first, last);
+    let lim = l.last / 1024;
+    let at = l.last % 1024;
+    if at < lim {
+        fault(s, lim, at);
+    }
 }
 
 // One of 0 or over 512 octets.
@@ -134,5 +130,5 @@ pub fn message(line: u64, s: &[u8]) {
     let mut out = [0u8; 256];
     let n = message_line(&mut out, line, s, m);
     text::say(&out, n);
-    components(s);
+    components(s, m);
 }

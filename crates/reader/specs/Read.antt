@@ -1,14 +1,17 @@
--- THE READER'S STEPS (01, "Rows"): the component at a cursor of a message. Assumes nothing.
+-- THE READER (01, "Rows"): the component at a cursor of a message, and what the struct that holds both gives. Assumes nothing.
 -- A cursor is 0 at the start of the message, else 1024 times where the components end, plus where the next one starts: a message has at most 512 octets.
 use mathlib.Core.List.{List, [], _∷_}
-use Prim.Native.Nat.{ℕ, zero, suc, _+_, _*_, _/_, _%_}
+use Prim.Native.Nat.{ℕ, _+_, _*_, _/_, _%_}
+use mathlib.Core.Path.{_≡_}
 use lib.ListN.{length}
+use denote.Ref.{RefT, now}
 use Rattle.laws.specs.If.{ifLt, ifEq}
 use Rattle.paper.specs.declared.Component.{Component}
 use Rattle.paper.specs.declared.Message.{Message}
 use Rattle.paper.specs.Sizes.{longestMessage}
 use Rattle.paper.specs.Components.{Item, componentAt}
 use Rattle.paper.specs.Messages.{messageOf, isSound}
+use Rattle.reader.specs.declared.Reader.{Reader}
 use Rattle.reader.specs.declared.Piece.{Piece}
 use Rattle.reader.specs.declared.Piece.the-variants.{Part, End}
 
@@ -35,11 +38,17 @@ pieceBy s k = pieceIn s (k / 1024) (k % 1024)
 unfoldable pub pieceAt : List ℕ → ℕ → Piece
 pieceAt s k = ifEq k 0 (pieceBy s (firstCursor s)) (pieceBy s k)
 
--- what is read by going on from cursor to cursor, n pieces at most
-abbrev pub onward : Piece → (ℕ → List Item) → List Item
-onward End f = []
-onward (Part at c k) f = record { start = at; part = c } ∷ f k
+-- THE STRUCT: what its functions `new`, `next` and `moved` give
+abbrev pub atStart : RefT (List ℕ) → Reader
+atStart msg = record { msg = msg; at = 0 }
 
-unfoldable pub readFrom : List ℕ → ℕ → ℕ → List Item
-readFrom s zero k = []
-readFrom s (suc n) k = onward (pieceAt s k) (λ k. readFrom s n k)
+abbrev pub nextOf : Reader → Piece
+nextOf r = pieceAt (now (r .msg)) (r .at)
+
+abbrev pub movedTo : Reader → ℕ → Reader
+movedTo r k = record { msg = r .msg; at = k }
+
+-- "gives its components one after another": these, each from where the one before moved the reader to, and then the End
+pub data Gives : Reader → List Item → Type 0 where
+  ends : {r : Reader} → nextOf r ≡ End → Gives r []
+  goes : {r : Reader} (at : ℕ) (c : Component) (k : ℕ) {is : List Item} → nextOf r ≡ Part at c k → Gives (movedTo r k) is → Gives r (record { start = at; part = c } ∷ is)

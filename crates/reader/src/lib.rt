@@ -1,6 +1,6 @@
 // "a reader that stays on one message and gives its components one after another up to a syntax fault" (01, "Rows").
 ghost use mathlib.Core.Path.{_≡_};
-ghost use Rattle.reader.specs.Read.{firstCursor, pieceIn, pieceAt};
+ghost use Rattle.reader.specs.Read.{firstCursor, pieceIn, pieceAt, atStart, nextOf, movedTo};
 use paper::Component;
 
 // The message, and the cursor: 0 at its start, else 1024 times where the components end, plus where the next one starts.
@@ -16,7 +16,7 @@ pub enum Piece {
 }
 
 // The cursor of the first component, 0 for none: "none where the message is refused by 4, dropped for its form or at fault with cause 0 or 2".
-pub fn first_cursor(s: &[u8]) -> usize
+fn first_cursor(s: &[u8]) -> usize
     ensures { λ r. ⌜ r ≡ firstCursor (now (s .entry)) ⌝ }
 {
     if s.len() == 0 {
@@ -56,7 +56,7 @@ fn piece_in(s: &[u8], lim: usize, at: usize) -> Piece
 }
 
 // The component at a cursor. The message is read at its start only.
-pub fn piece_at(msg: &[u8], at: usize) -> Piece
+fn piece_at(msg: &[u8], at: usize) -> Piece
     ensures { λ r. ⌜ r ≡ pieceAt (now (msg .entry)) at ⌝ }
 {
     if at == 0 {
@@ -66,26 +66,21 @@ pub fn piece_at(msg: &[u8], at: usize) -> Piece
     piece_in(msg, at / 1024, at % 1024)
 }
 
+// The reader itself: thin functions over that cursor. Its law (specs/Whole.antt, reader-gives) is about what their contracts name.
 pub fn new<'a>(msg: &'a [u8]) -> Reader<'a>
-    ensures { λ r. ⌜ (r .msg ≡ msg .entry) × (r .at ≡ 0) ⌝ }
+    ensures { λ r. ⌜ r ≡ atStart (msg .entry) ⌝ }
 {
     Reader { msg, at: 0 }
 }
 
 pub fn next<'a>(r: Reader<'a>) -> Piece
-    ensures { λ p. ⌜ p ≡ pieceAt (now (r .entry .msg)) (r .entry .at) ⌝ }
+    ensures { λ p. ⌜ p ≡ nextOf (r .entry) ⌝ }
 {
     piece_at(r.msg, r.at)
 }
 
 pub fn moved<'a>(r: Reader<'a>, at: usize) -> Reader<'a>
-    ensures { λ q. ⌜ (q .msg ≡ r .entry .msg) × (q .at ≡ at) ⌝ }
+    ensures { λ q. ⌜ q ≡ movedTo (r .entry) at ⌝ }
 {
     Reader { msg: r.msg, at }
-}
-
-pub fn first(msg: &[u8]) -> Piece
-    ensures { λ r. ⌜ r ≡ pieceAt (now (msg .entry)) 0 ⌝ }
-{
-    next(new(msg))
 }

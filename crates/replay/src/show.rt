@@ -71,20 +71,6 @@ pub fn parameter_line(s: &[u8], start: usize, count: usize) {
     text::say(&out, n);
 }
 
-// How many components the reader gives: fewer than the octets of a message.
-fn count(s: &[u8]) -> u64 {
-    let mut n = 0;
-    let mut k = 0;
-    while n < 512 {
-        k = listing::next_cursor(s, k);
-        if k == 0 {
-            return n;
-        }
-        n += 1;
-    }
-    n
-}
-
 // `= COUNT`
 fn count_line(n: u64) {
     let mut out = [0u8; 32];
@@ -94,14 +80,9 @@ fn count_line(n: u64) {
     text::say(&out, c);
 }
 
-// That, and a line for each.
+// That, how many components the reader gives, and a line for each.
 pub fn component_lines(s: &[u8]) {
-    let n = count(s);
-    count_line(n);
-    let mut k = 0;
-    let mut i = 0;
-    while i < n {
-        k = listing::component(s, k);
-        i += 1;
-    }
+    let l = listing::components(s, false);
+    count_line(l.count);
+    listing::components(s, true);
 }
