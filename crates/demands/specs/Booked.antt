@@ -16,7 +16,7 @@ use Rattle.facts.specs.Fine.{Fine}
 use Rattle.facts.specs.Whole.{view-encode}
 use Rattle.kept.specs.Steps.{WellFormed, step-kept}
 use Rattle.ledger.specs.Agrees.{Agrees}
-use Rattle.ledger.specs.Steps.{Goes, step-goes}
+use Rattle.ledger.specs.Steps.{step-goes}
 use Rattle.demands.specs.Stands.{stands}
 use Rattle.demands.specs.History.{Made, gave, after, AllFormed, told, told-step}
 

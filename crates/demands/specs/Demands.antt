@@ -24,7 +24,7 @@ use Rattle.paper.specs.Asked.{oursOf}
 use Rattle.paper.specs.Dialogues.{needs, refusal}
 use Rattle.paper.specs.Dialogues.Request.{Cancel, RejectTimeout}
 use Rattle.paper.specs.Calls.{Table, Call, Out, placeAt, guaranteeOf, limitOf, held, mayBegin, lowestFree, shows, octetsAt, numberAt, beginAt, step, freshTable}
-use Rattle.paper.specs.Calls.Call.{Open, OnDialogue, Receive}
+use Rattle.paper.specs.Calls.Call.{OnDialogue, Receive}
 use Rattle.paper.specs.Layout.{encode, view}
 use Rattle.paper.specs.Rules.{rules}
 use Rattle.paper.specs.Outcome.{Lent, Outcome, Gives, spacesFor, standing, given, shown, refusedBy, outcome, freshOutcome, one}

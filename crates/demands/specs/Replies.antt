@@ -1,5 +1,5 @@
 -- WHAT A FRESH, AN OPEN AND A RECEIVED MESSAGE ARE ANSWERED, at the octets of a table that keeps the rules. Assumes nothing.
-use mathlib.Core.Path.{_≡_, refl, sym, ap, subst, _∙_}
+use mathlib.Core.Path.{_≡_, refl, sym, ap, _∙_}
 use mathlib.Core.Bool.{Bool, true, false}
 use mathlib.Core.List.{List, []}
 use Prim.Native.Nat.{ℕ, zero, suc, _≤_, _<_}
@@ -10,7 +10,7 @@ use Rattle.paper.specs.Sizes.{placesInAll, services, placeOf}
 use Rattle.paper.specs.Shares.{sharesFit}
 use Rattle.paper.specs.Messages.{messageOf}
 use Rattle.paper.specs.Dialogues.{Place, Request, unlessRefused, refusal, does, request}
-use Rattle.paper.specs.Calls.{Table, Out, placeAt, mayBegin, owns, stored, requested, opened, openedAt, lowestFree, refuse, received, receivedIf, step, freshTable}
+use Rattle.paper.specs.Calls.{Table, Out, placeAt, mayBegin, owns, stored, requested, opened, openedAt, lowestFree, refuse, receivedIf, step, freshTable}
 use Rattle.paper.specs.Calls.Call.{Open, OnDialogue, Receive}
 use Rattle.paper.specs.Layout.{encode, view}
 use Rattle.paper.specs.Outcome.{Lent, Outcome, standing, spacesOf, spacesFor, noSpace, given, shown, outcome, freshAnswer, freshOutcome}

@@ -1,5 +1,5 @@
--- A TABLE OF OCTETS STAYS READY over every call of a host: it keeps the rules, and holds what the step says. Assumes nothing.
-use mathlib.Core.Path.{_≡_, refl, sym, ap, subst, _∙_}
+-- A TABLE OF OCTETS STAYS READY over every call of a host: it keeps the rules. Assumes nothing.
+use mathlib.Core.Path.{_≡_, refl, sym, subst}
 use mathlib.Core.Bool.{true}
 use mathlib.Core.List.{List}
 use Prim.Native.Nat.{ℕ, zero, suc}
@@ -10,10 +10,8 @@ use Rattle.paper.specs.Layout.{view}
 use Rattle.paper.specs.Rules.{rules}
 use Rattle.paper.specs.Outcome.{Lent, Outcome, standing, spacesFor, shown, outcome, freshAnswer, freshOutcome}
 use Rattle.facts.specs.Fine.{Fine}
-use Rattle.facts.specs.Whole.{view-encode}
 use Rattle.facts.specs.Ready.{Ready, encode-rules, encode-ready}
 use Rattle.kept.specs.Steps.{WellFormed, step-kept}
-use Rattle.kept.specs.Refusals.{refused-same}
 use Rattle.kept.specs.Fresh.{fresh-fine}
 
 -- a call leaves a table that keeps the rules
@@ -33,20 +31,6 @@ module _ (l : Lent) (c : Call) (w : WellFormed c) (r : Ready (l .table)) where
           by-eq {r = shown zero l o} _ _ _ _ refl (λ a z. subst (λ (x : Outcome). Ready (x .lent .table)) (sym z) (encode-ready (o .table) after-fine))
           (λ a z. subst (λ (x : Outcome). Ready (x .lent .table)) (sym z) r)
       go (suc n) = r
-
-  -- and holds what the step says, where the spaces are right
-  pub outcome-view : standing l (spacesFor c) ≡ 0 → view (outcome l c .lent .table) ≡ step (view (l .table)) c .table
-  unfolding outcome
-  outcome-view e = ap (λ (n : ℕ). view (shown n l o .lent .table)) e ∙ stood
-    where
-      o : Out
-      o = step (view (l .table)) c
-
-      stood : view (shown zero l o .lent .table) ≡ o .table
-      stood =
-          by-eq {r = shown zero l o} _ _ _ _ refl
-          (λ a z. ap (λ (x : Outcome). view (x .lent .table)) z ∙ view-encode (o .table) after-fine)
-          (λ a z. ap (λ (x : Outcome). view (x .lent .table)) z ∙ sym (refused-same (view (l .table)) c a))
 
 -- and so does a fresh table
 pub fresh-ready : (t g l : List ℕ) → freshAnswer t g l ≡ 0 → Ready (freshOutcome t g l .lent .table)

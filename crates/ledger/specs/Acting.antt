@@ -2,7 +2,7 @@
 -- service and turn stay. Assumes nothing.
 use mathlib.Core.Path.{_≡_, refl, sym, ap, subst, _∙_}
 use mathlib.Core.List.{List, [], _∷_, _++_, map, append-nil, append-assoc}
-use Prim.Native.Nat.{ℕ, zero, suc, _+_, _≤_, _<_}
+use Prim.Native.Nat.{ℕ, _≤_}
 use native.Mathlib.Omega.{arith}
 use native.Mathlib.Numerals.{add-one}
 use lib.ListN.{length, take, set}
@@ -16,12 +16,12 @@ use Rattle.paper.specs.declared.Row.{Row}
 use Rattle.paper.specs.Components.{Item}
 use Rattle.paper.specs.Writing.{Written}
 use Rattle.paper.specs.Dialogues.{peerOf}
-use Rattle.paper.specs.Invocations.{toState, toIdle, notLastShown, acted, withReject, rejected, answerKind, answersSent, answers, invokes, released, rejectKind, rejects, faultyReject, faults, act}
+use Rattle.paper.specs.Invocations.{toState, toIdle, notLastShown, acted, rejected, answerKind, answersSent, answers, invokes, released, rejectKind, rejects, faultyReject, faults, act}
 use Rattle.paper.specs.Rows.{signed, componentRow, rowBy, allActed, componentRows, rowRejected}
 use Rattle.paper.specs.Ledger.{unsigned, rejectsIn}
 use Rattle.facts.specs.Fine.{FineControl}
 use Rattle.kept.specs.Leaves.{whether-eq, whether-lt, whether-b}
-use Rattle.kept.specs.Acts.{Readable, AllReadable, act-stays}
+use Rattle.kept.specs.Acts.{AllReadable, act-stays}
 use Rattle.ledger.specs.Agrees.{rejectOf, waits}
 
 -- the octet of an ID, shown and read back

@@ -3,18 +3,17 @@ use mathlib.Core.Path.{_≡_, refl, sym, ap, subst, _∙_}
 use mathlib.Core.Bool.{Bool, true, false}
 use mathlib.Core.Option.{Option, none, some}
 use mathlib.Core.List.{List, [], _∷_, _++_, map}
-use Prim.Native.Nat.{ℕ, zero, suc, _+_, _*_, _/_, _%_, _<_}
+use Prim.Native.Nat.{ℕ, suc, _+_, _%_, _<_}
 use native.Mathlib.Omega.{arith}
 use lib.Dec.{eqb}
 use lib.ListN.{take}
 use borrow.Author.Tests.{eqb-true, eqb-false, eq-eqb, ne-eqb}
 use Rattle.laws.specs.If.{ifEq, lt, eq, ne, no}
-use Rattle.laws.specs.Sums.{sumBy}
 use Rattle.paper.specs.declared.Reject.{Reject}
 use Rattle.paper.specs.declared.Control.{Control}
 use Rattle.paper.specs.Sizes.{placeOf, turnOf, localID, nextTurn}
 use Rattle.paper.specs.Writing.{Written, joined}
-use Rattle.paper.specs.Dialogues.{Place, emptyPlace, freed, peerOf}
+use Rattle.paper.specs.Dialogues.{Place, freed, peerOf}
 use Rattle.paper.specs.Calls.{Table, placeAt, withPlace, isFree, isOf, held, isDialogue, owns}
 use Rattle.paper.specs.Ledger.{Entry, Ledger, hadPlace, endedIn, find, altered, removed, isEntryOf, entriesOf, begins, goesOn, ends}
 use Rattle.readback.specs.Written.{AllAllowed}
@@ -23,7 +22,7 @@ use Rattle.facts.specs.Changes.{held-set, of-used, place-same, place-other}
 use Rattle.facts.specs.Owners.{Owned}
 use Rattle.kept.specs.Shared.{of-free}
 use Rattle.ledger.specs.Ours.{Ours}
-use Rattle.ledger.specs.Entries.{Distinct, mapped, find-id, find-altered, find-altered-other, distinct-altered, entries-altered, find-removed, find-removed-other, distinct-removed, entries-removed, find-added, find-added-other, distinct-added, entries-added}
+use Rattle.ledger.specs.Entries.{Distinct, mapped, find-altered, find-altered-other, distinct-altered, entries-altered, find-removed, find-removed-other, distinct-removed, entries-removed, find-added, find-added-other, distinct-added, entries-added}
 
 -- a waiting reject, as a component; those of a dialogue
 abbrev pub rejectOf : Reject → Written

@@ -2,14 +2,14 @@
 -- dialogue, and nobody where the service has none under it. Assumes nothing.
 use mathlib.Core.Path.{_≡_, refl, sym, ap, subst, _∙_}
 use mathlib.Core.Bool.{Bool, true, false}
-use mathlib.Core.Option.{Option, none, some}
+use mathlib.Core.Option.{none, some}
 use mathlib.Core.List.{List, [], _∷_}
-use Prim.Native.Nat.{ℕ, _+_, _*_, _≤_, _<_}
+use Prim.Native.Nat.{ℕ, _+_, _≤_, _<_}
 use native.Mathlib.Omega.{arith}
 use native.Mathlib.Nat.{add-zero}
-use lib.ListN.{length, getD, take, drop, length-take, length-drop}
+use lib.ListN.{length, getD, drop, length-take, length-drop}
 use lib.Seq.{getD-take, getD-drop}
-use Rattle.laws.specs.If.{ifEq, ifB, lt, ge, eq, ne, yes, no, by-eq, true-false}
+use Rattle.laws.specs.If.{ifEq, ifB, lt, ge, eq, ne, yes, no, by-eq}
 use Rattle.paper.specs.declared.Message.{Message}
 use Rattle.paper.specs.declared.Row.{Row}
 use Rattle.paper.specs.Sizes.{services, placeOf, idOctets}

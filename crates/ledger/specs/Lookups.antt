@@ -14,8 +14,8 @@ use Rattle.paper.specs.declared.Invocation.{Invocation}
 use Rattle.paper.specs.declared.Control.{Control}
 use Rattle.paper.specs.declared.Acted.{Acted}
 use Rattle.paper.specs.Problems.{problem, kindOf, noProblem}
-use Rattle.paper.specs.Components.{rejectTag, notLastTag}
-use Rattle.paper.specs.Invocations.{pending, sent, wait, rejecting, noInvocation, isOpen, slotOf, idleSlot, invocationOf, stateOf, inState, toState, toIdle, passed, notLastShown, transmitted, allTransmitted, acted, rejected, takes, answerKind, answerProblem, answersSent, answers, invokes, released, rejectKind, rejects, faultyReject, isAnswer, faults, act, mayReject}
+use Rattle.paper.specs.Components.{notLastTag}
+use Rattle.paper.specs.Invocations.{pending, wait, rejecting, noInvocation, isOpen, slotOf, idleSlot, invocationOf, stateOf, inState, toState, toIdle, passed, notLastShown, transmitted, allTransmitted, acted, rejected, takes, answerKind, answerProblem, answersSent, answers, invokes, released, rejectKind, rejects, faultyReject, faults, act, mayReject}
 use Rattle.paper.specs.Asked.{releases, wasShown, faultHeard, rejectHeard, heardOf}
 use Rattle.paper.specs.Dialogues.{rejectedBy}
 use Rattle.facts.specs.Fine.{FineInvocations, FineControl}

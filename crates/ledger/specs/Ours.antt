@@ -1,17 +1,16 @@
 -- OUR INVOCATIONS in the ledger's list are those of the eight slots, looked up by their ID. Assumes nothing.
 use mathlib.Core.Path.{_≡_, refl, sym, ap, subst, _∙_}
 use mathlib.Core.List.{List, [], _∷_}
-use Prim.Native.Nat.{ℕ, _+_, _≤_}
+use Prim.Native.Nat.{ℕ, _≤_}
 use native.Mathlib.Omega.{arith}
 use lib.ListN.{replicate}
 use Rattle.laws.specs.If.{ifEq, ifB, eq, ne, by-eq}
 use Rattle.laws.specs.Lists.{firstAt}
 use Rattle.paper.specs.declared.Invocation.{Invocation}
 use Rattle.paper.specs.declared.Control.{Control}
-use Rattle.paper.specs.declared.Row.{Row}
 use Rattle.paper.specs.Components.{Item}
 use Rattle.paper.specs.Invocations.{noInvocation, isOpen, slotOf, invocationOf, transmitted, allTransmitted, act}
-use Rattle.paper.specs.Rows.{componentRow, rowBy, allActed, componentRows}
+use Rattle.paper.specs.Rows.{componentRow, allActed, componentRows}
 use Rattle.paper.specs.Asked.{oursOf, becomes, allSent, heardOf, heardAll}
 use Rattle.facts.specs.Fine.{FineInvocations, FineControl}
 use Rattle.kept.specs.Acts.{AllReadable, act-stays}

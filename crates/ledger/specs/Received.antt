@@ -1,9 +1,9 @@
 -- A RECEIVED MESSAGE: the ledger, played by its rows, goes with the table, and the Abort of a fault holds what the ledger says. Assumes nothing.
 use mathlib.Core.Path.{_≡_, refl, sym, ap, subst, fun-ext, _∙_}
-use mathlib.Core.Bool.{Bool, true, false}
+use mathlib.Core.Bool.{true, false}
 use mathlib.Core.Option.{Option, none, some}
 use mathlib.Core.List.{List, [], _∷_, _++_}
-use Prim.Native.Nat.{ℕ, _+_, _≤_, _<_}
+use Prim.Native.Nat.{ℕ, _≤_, _<_}
 use native.Mathlib.Omega.{arith}
 use lib.ListN.{length, getD, take}
 use Rattle.laws.specs.If.{ifEq, ifB, lt, ge, eq, ne, yes, no, by-eq, by-b, was-eq, was-yes, true-false}
@@ -14,30 +14,29 @@ use Rattle.paper.specs.declared.Control.{Control}
 use Rattle.paper.specs.declared.Row.{Row}
 use Rattle.paper.specs.Sizes.{placeOf, localID}
 use Rattle.paper.specs.Problems.{noProblem}
-use Rattle.paper.specs.Components.{Item}
-use Rattle.paper.specs.Messages.{messageOf, isSound, isDropped, noRun, uniTag, beginTag, endTag, continueTag}
+use Rattle.paper.specs.Messages.{messageOf, isSound, noRun, uniTag, beginTag, continueTag}
 use Rattle.paper.specs.Writing.{Written, joined, causeAbortOctets}
 use Rattle.paper.specs.Rows.{dialogueRow, componentRows, allActed, rowUni, rowBegin, rowContinue, rowEnd, rowUserAbort, rowAbort}
 use Rattle.paper.specs.Shares.{gives}
-use Rattle.paper.specs.Dialogues.{Place, freed, peerOf, emptyControl, withControl}
-use Rattle.paper.specs.Calls.{Table, Out, placeAt, withPlace, guaranteeOf, limitOf, held, mayBegin, lowestFree, owns, octetsAt, destinationNumber, assigned, faultedAt, faulted, itemsOf, uniReceived, begunControl, beginAt, beginReceived, withPeer, continuedControl, continueReceived, endReceived, abortReceived, toDialogue, soundReceived, received}
+use Rattle.paper.specs.Dialogues.{Place, freed, peerOf, withControl}
+use Rattle.paper.specs.Calls.{Table, Out, placeAt, withPlace, limitOf, held, mayBegin, lowestFree, owns, octetsAt, destinationNumber, assigned, faultedAt, faulted, itemsOf, uniReceived, begunControl, beginAt, beginReceived, continuedControl, continueReceived, endReceived, abortReceived, toDialogue, soundReceived, received}
 use Rattle.paper.specs.Contents.{Wire, contentOf}
 use Rattle.paper.specs.Counting.{isEnded}
 use Rattle.paper.specs.Asked.{heardAll}
-use Rattle.paper.specs.Ledger.{Entry, Ledger, find, goesOn, begins, ends, partnerIn, componentsIn, rejectsIn, answered, shown, aborting, forService, addressee, entriesOf, mayBeginIn, toEntry, causeOf, saidFor}
+use Rattle.paper.specs.Ledger.{Entry, Ledger, find, goesOn, begins, ends, partnerIn, componentsIn, rejectsIn, answered, shown, aborting, forService, addressee, mayBeginIn, toEntry, causeOf, saidFor}
 use Rattle.messages.specs.Bounds.{MessageIn, message-in}
 use Rattle.readback.specs.Contents.{nothing-content, cause-abort-fits, cause-abort-content}
-use Rattle.facts.specs.Fine.{Octets, FineControl, Fine}
+use Rattle.facts.specs.Fine.{Octets, Fine}
 use Rattle.facts.specs.Zeros.{pad-rest}
 use Rattle.facts.specs.Slots.{free-is}
 use Rattle.facts.specs.Counts.{lowest-is-free}
 use Rattle.facts.specs.Owners.{Owned, owned-is}
 use Rattle.kept.specs.Counted.{row-ended}
 use Rattle.kept.specs.Shared.{lowest-there}
-use Rattle.kept.specs.Steps.{assigned-is, items-readable, origin-length, begun-control-fine, continued-fine}
+use Rattle.kept.specs.Steps.{items-readable, origin-length, begun-control-fine, continued-fine}
 use Rattle.ledger.specs.Ours.{Ours, ours-none, ours-heard}
-use Rattle.ledger.specs.Agrees.{waits, Is, Holds, At, Agrees, holds-owns, owned-found, agrees-altered, agrees-ended, agrees-begun}
-use Rattle.ledger.specs.Acting.{AllLeft, all-left}
+use Rattle.ledger.specs.Agrees.{waits, Holds, At, Agrees, holds-owns, owned-found, agrees-altered, agrees-ended, agrees-begun}
+use Rattle.ledger.specs.Acting.{all-left}
 use Rattle.ledger.specs.Read.{message-read}
 
 -- THE ROWS' WAY through the ledger

@@ -1,9 +1,9 @@
 -- A REQUEST OR TIMER EVENT that isn't refused: the ledger goes with the table, and the message holds what the ledger says. Assumes nothing.
 use mathlib.Core.Path.{_≡_, refl, sym, ap, subst, _∙_}
 use mathlib.Core.Bool.{true, false}
-use mathlib.Core.Option.{Option, none, some}
+use mathlib.Core.Option.{Option, some}
 use mathlib.Core.List.{List, [], _∷_, _++_}
-use Prim.Native.Nat.{ℕ, _+_, _≤_, _<_}
+use Prim.Native.Nat.{ℕ, _≤_, _<_}
 use native.Mathlib.Omega.{arith}
 use lib.ListN.{length, length-append}
 use lib.Seq.{length-take-le}
@@ -12,13 +12,13 @@ use Rattle.laws.specs.If.{ifLt, ifEq, ifB, eq, ne, yes, no, by-eq, by-b, was-eq
 use Rattle.laws.specs.Lists.{every, firstAt, first-le}
 use Rattle.paper.specs.declared.Invocation.{Invocation}
 use Rattle.paper.specs.declared.Control.{Control}
-use Rattle.paper.specs.Sizes.{placeOf, turnOf, idOctets}
+use Rattle.paper.specs.Sizes.{placeOf, idOctets}
 use Rattle.paper.specs.Elements.{headAt, frameAt, tagEnd}
 use Rattle.paper.specs.Problems.{kindOf, noProblem}
 use Rattle.paper.specs.Components.{tagAt, componentAt, items, components}
-use Rattle.paper.specs.Writing.{Written, octetsOf, joined, beginOctets, continueOctets, endOctets, uniOctets, userAbortOctets}
+use Rattle.paper.specs.Writing.{Written, octetsOf, joined, beginOctets, continueOctets, endOctets, uniOctets}
 use Rattle.paper.specs.Invocations.{noInvocation, isIdle, idleSlot, inState, toIdle, passed}
-use Rattle.paper.specs.Messages.{abortTag, beginTag, continueTag, endTag, uniTag}
+use Rattle.paper.specs.Messages.{beginTag, continueTag, endTag}
 use Rattle.paper.specs.Dialogues.{Place, Request, withControl, freed, invokeRefusal, rejectRefusal, rejectedBy, peerOf, waitingRejects, sentComponents, afterSending, needsPeer, ofClass4, uniRefusal, abortRefusal, abortMessage, refusal, does}
 use Rattle.paper.specs.Dialogues.Request.{Invoke, Result, Error, UserReject, Cancel, Begin, Continue, End, Prearranged, Abort, Unidirectional, Timeout, RejectTimeout, NoReaction}
 use Rattle.paper.specs.Calls.{Table, placeAt, withPlace}
@@ -29,7 +29,7 @@ use Rattle.paper.specs.Asked.{becomes, newOne, userRejects}
 use Rattle.paper.specs.Ledger.{Entry, Ledger, find, goes, passes, idles, unmoved, sends, goesOn, ends, noted, sending, aborting, saidBy, saidOf}
 use Rattle.readback.specs.Written.{Allowed, AllAllowed}
 use Rattle.readback.specs.Contents.{nothing-content, begin-fits, begin-content, continue-fits, continue-content, end-fits, end-content, uni-fits, uni-content, user-abort-fits, user-abort-content}
-use Rattle.facts.specs.Fine.{FineControl, FinePlace, Fine}
+use Rattle.facts.specs.Fine.{FinePlace, Fine}
 use Rattle.kept.specs.Leaves.{whether-eq}
 use Rattle.kept.specs.Controls.{passed-fine, to-idle-fine}
 use Rattle.kept.specs.Requests.{Formed, requestOf, passed-taken, invoke-told, reject-told, rejected-by-stays}

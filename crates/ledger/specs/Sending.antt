@@ -1,21 +1,20 @@
 -- WHAT A DIALOGUE SENDS is what its entry says. Assumes nothing.
 use mathlib.Core.Path.{_≡_, refl, sym, ap, subst, _∙_}
-use mathlib.Core.Bool.{Bool, true, false}
 use mathlib.Core.List.{List, [], _∷_, _++_, map, append-nil, append-assoc}
 use Prim.Native.Nat.{ℕ, zero, suc, _+_, _≤_, _<_}
 use native.Mathlib.Omega.{arith}
 use lib.Dec.{leb}
 use lib.ListN.{length, getD, take, length-append}
 use borrow.Author.Tests.{leb-true}
-use Rattle.laws.specs.If.{ifB, yes, no, by-b}
+use Rattle.laws.specs.If.{yes, no, by-b}
 use Rattle.paper.specs.declared.Reject.{Reject}
 use Rattle.paper.specs.declared.Control.{Control}
-use Rattle.paper.specs.Writing.{Written, octetsOf, joined, rejectOctets}
+use Rattle.paper.specs.Writing.{Written, octetsOf, joined}
 use Rattle.paper.specs.Dialogues.{Place, noReject, allRejects, waitingRejects, rejectsFit, sentComponents, afterSending, withState, withoutRejects, peerOf}
 use Rattle.paper.specs.Invocations.{allTransmitted}
 use Rattle.paper.specs.Asked.{allSent}
 use Rattle.paper.specs.Ledger.{Entry, fit, goes, stays, sends}
-use Rattle.readback.specs.Written.{Allowed, AllAllowed}
+use Rattle.readback.specs.Written.{AllAllowed}
 use Rattle.facts.specs.Fine.{FineReject, FinePlace}
 use Rattle.ledger.specs.Ours.{Ours, ours-sent}
 use Rattle.ledger.specs.Agrees.{rejectOf, waits, Is}

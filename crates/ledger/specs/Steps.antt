@@ -1,22 +1,19 @@
 -- EVERY STEP that is answered 0: the ledger, played by what it tells, goes with the table, and its message holds what the ledger says.
 -- Assumes nothing.
-use mathlib.Core.Path.{_≡_, refl, sym, ap, subst, _∙_}
-use mathlib.Core.Bool.{true, false}
-use mathlib.Core.Option.{Option, none, some}
-use mathlib.Core.List.{List, [], _∷_}
-use Prim.Native.Nat.{ℕ, zero, suc, _%_, _≤_, _<_}
+use mathlib.Core.Path.{_≡_, refl, sym, ap, subst}
+use mathlib.Core.List.{List, []}
+use Prim.Native.Nat.{ℕ, zero, suc, _≤_, _<_}
 use native.Mathlib.Omega.{arith}
 use lib.ListN.{length, replicate, getD-replicate}
 use Rattle.laws.specs.If.{eq, by-lt, by-eq, by-b}
 use Rattle.paper.specs.Sizes.{placeOf, localID}
-use Rattle.paper.specs.Messages.{messageOf}
 use Rattle.paper.specs.Writing.{joined}
 use Rattle.paper.specs.Dialogues.{Place, Request, emptyPlace, begun, unlessRefused, refusal, does, request}
-use Rattle.paper.specs.Calls.{Table, Out, placeAt, withPlace, lowestFree, stored, requested, opened, received, receivedIf, Call, step, freshTable}
+use Rattle.paper.specs.Calls.{Table, Out, placeAt, lowestFree, stored, requested, opened, receivedIf, Call, step, freshTable}
 use Rattle.paper.specs.Calls.Call.{Open, OnDialogue, Receive}
-use Rattle.paper.specs.Outcome.{spacesOf, spacesFor}
+use Rattle.paper.specs.Outcome.{spacesFor}
 use Rattle.paper.specs.Contents.{contentOf}
-use Rattle.paper.specs.Ledger.{Entry, Ledger, newLedger, find, entriesOf, noted, playedBy, said, endedIn}
+use Rattle.paper.specs.Ledger.{Ledger, newLedger, find, entriesOf, noted, playedBy, said, endedIn}
 use Rattle.readback.specs.Contents.{nothing-content}
 use Rattle.facts.specs.Fine.{Fine}
 use Rattle.facts.specs.Slots.{free-is}
@@ -27,7 +24,7 @@ use Rattle.kept.specs.Requests.{Formed}
 use Rattle.kept.specs.Steps.{WellFormed, does-answers}
 use Rattle.kept.specs.Fresh.{none-held}
 use Rattle.ledger.specs.Ours.{ours-none}
-use Rattle.ledger.specs.Agrees.{At, Agrees, owned-found, agrees-begun}
+use Rattle.ledger.specs.Agrees.{Agrees, owned-found, agrees-begun}
 use Rattle.ledger.specs.Requests.{Done as Answered, does-done}
 use Rattle.ledger.specs.Received.{received-heard}
 

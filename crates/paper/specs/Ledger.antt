@@ -1,6 +1,6 @@
 -- THE LEDGER (demand 2): what was put in, played over the calls, their answers and rows as a host sees them, and never read from the
 -- table. Dialogues stand in order of beginning and are found by their ID, from the start. Assumes nothing.
-use mathlib.Core.Bool.{Bool, true, false}
+use mathlib.Core.Bool.{Bool}
 use mathlib.Core.Option.{Option, none, some}
 use mathlib.Core.List.{List, [], _∷_, _++_}
 use Prim.Native.Nat.{ℕ, _+_, _-_}
@@ -25,7 +25,7 @@ use Rattle.paper.specs.Calls.Call.{Open, OnDialogue, Receive}
 use Rattle.paper.specs.Counting.{isEnded}
 use Rattle.paper.specs.Rules.{hasPeer}
 use Rattle.paper.specs.Invocations.{noInvocation}
-use Rattle.paper.specs.Contents.{Content, Wire}
+use Rattle.paper.specs.Contents.{Wire}
 use Rattle.paper.specs.Asked.{becomes, newOne, userRejects, allSent, heardAll}
 
 -- A DIALOGUE: the local ID that an open or a BEGIN row told, its service and state; the partner's ID (of the Begin received, or of the
