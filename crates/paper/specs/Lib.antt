@@ -16,3 +16,4 @@ pub mod Readers
 pub mod Outcome
 pub mod Computing
 pub mod Examples
+pub mod Cases
