@@ -293,13 +293,58 @@ static void all_places(void)
     WRITES("67 06 49 01 07 4A 01 04", ask_receive(9, hex("62 03 48 01 07")));
 }
 
-static void turns_go_round(void)
+/* A dialogue of service 3 that is freed at once: every way there is. */
+#define WAYS 9
+static uint32_t freed(unsigned way)
+{
+    uint32_t d = way < 3 ? opened(3) : way < 7 ? begun(3, 1, 1) : received(3);
+    if (way == 2)
+        ANSWERS(TCAP_DONE, ask_invoke(3, d, 1, 4));
+    const struct request ways[WAYS] = {
+        ask(CALL_END_PREARRANGED, 3, d), ask(CALL_ABORT, 3, d), ask(CALL_UNIDIRECTIONAL, 3, d), ask(CALL_NO_REACTION, 3, d),
+        ask_receive(3, end_to(d, none)), ask_receive(3, element(0x67, element(0x49, local_id(d)))),
+        ask_receive(3, join(continue_to(d, none), one(0))), ask(CALL_END, 3, d), ask_receive(3, continue_to(d, none)),
+    };
+    CHECK(play(ways[way])->reply.answer == TCAP_DONE, "way %u of freeing is done", way);
+    return d;
+}
+
+/* A fresh table whose place 0 has this turn. */
+static void start_at(uint32_t turn)
 {
     start();
-    memset(the_table + 48, 0xFF, 3);
-    OPENS(0x00FFFFFF, ask(CALL_OPEN, 3, 0));
-    ANSWERS(TCAP_DONE, ask(CALL_END_PREARRANGED, 3, 0x00FFFFFF));
-    OPENS(0, ask(CALL_OPEN, 3, 0));
+    for (unsigned i = 0; i < 3; i++)
+        the_table[PLACES_AT + i] = (uint8_t)(turn >> (16 - 8 * i));
+}
+
+/* Too many calls would lead up to these turns, so the table is handed in with them: it keeps the rules. */
+static void turns_go_round(void)
+{
+    static const uint32_t turns[][2] = {
+        { 0, 1 }, { 0xFF, 0x100 }, { 0xFFFF, 0x10000 }, { 0x01FFFF, 0x020000 }, { 0xFFFFFE, 0xFFFFFF }, { 0xFFFFFF, 0 },
+    };
+    for (size_t i = 0; i < sizeof turns / sizeof *turns; i++)
+        for (unsigned way = 0; way < WAYS; way++) {
+            start_at(turns[i][0]);
+            CHECK(freed(way) == turns[i][0], "way %u: the dialogue has turn %X", way, turns[i][0]);
+            OPENS(turns[i][1], ask(CALL_OPEN, 3, 0));
+            ANSWERS(TCAP_NO_DIALOGUE, ask(CALL_BEGIN, 3, turns[i][0]));
+            ANSWERS(TCAP_DONE, ask(CALL_ABORT, 3, turns[i][1]));
+        }
+}
+
+/* The turn's octets stand high first, in what is written and in what is looked for. */
+static void turns_in_messages(void)
+{
+    start_at(0x010203);
+    OPENS(0x010203, ask(CALL_OPEN, 3, 0));
+    WRITES("62 06 48 04 00 01 02 03", ask(CALL_BEGIN, 3, 0x010203));
+    WRITES("67 06 49 01 07 4A 01 01", ask_receive(3, continue_to(0x030201, none)));
+    WRITES("67 06 49 01 07 4A 01 01", ask_receive(3, continue_to(0x010204, none)));
+    WRITES("67 06 49 01 07 4A 01 01", ask_receive(3, continue_to(0x000203, none)));
+    WRITES("67 06 49 01 07 4A 01 01", ask_receive(3, continue_to(0x010003, none)));
+    SHOWS("3 66051 256 256 65535 0 0 0;", ask_receive(3, continue_to(0x010203, none)));
+    WRITES("65 09 48 04 00 01 02 03 49 01 07", ask(CALL_CONTINUE, 3, 0x010203));
 }
 
 /* ---- REQUESTS ON COMPONENTS ---------------------------------------------------------------------------------------------------------- */
@@ -813,11 +858,12 @@ static void every_answer(void)
 static const struct { const char *name; void (*run)(void); } tests[] = {
     T(every_call_done), T(answer_1_table), T(answer_1_rows_and_space), T(answer_2), T(answer_3), T(answer_4), T(answer_5), T(answer_6),
     T(answer_6_before_the_next), T(answer_6_unidirectional), T(answer_7), T(guarantees_are_kept), T(all_places), T(turns_go_round),
-    T(answer_8_classes), T(answer_8_problems), T(answer_9), T(answer_9_after_a_result_not_last), T(answer_9_until_idle), T(answer_10),
-    T(answer_11), T(answer_11_depth), T(answer_11_portion), T(answer_12), T(answer_12_reject_and_portion), T(fresh_sizes), T(answer_13),
-    T(fresh_on_any_octets), T(p1_to_p5), T(p6_to_p8), T(messages_of_every_kind), T(aborts_written), T(every_component_written),
-    T(the_longest_message), T(rejects_that_fit), T(rows_of_a_message), T(rows_of_each_component), T(syntax_faults), T(a_ninth_reject),
-    T(faults_free_the_place), T(dropped), T(the_most_rows), T(timers), T(parameter_found), T(every_answer),
+    T(turns_in_messages), T(answer_8_classes), T(answer_8_problems), T(answer_9), T(answer_9_after_a_result_not_last),
+    T(answer_9_until_idle), T(answer_10), T(answer_11), T(answer_11_depth), T(answer_11_portion), T(answer_12),
+    T(answer_12_reject_and_portion), T(fresh_sizes), T(answer_13), T(fresh_on_any_octets), T(p1_to_p5), T(p6_to_p8),
+    T(messages_of_every_kind), T(aborts_written), T(every_component_written), T(the_longest_message), T(rejects_that_fit),
+    T(rows_of_a_message), T(rows_of_each_component), T(syntax_faults), T(a_ninth_reject), T(faults_free_the_place), T(dropped),
+    T(the_most_rows), T(timers), T(parameter_found), T(every_answer),
 };
 
 int main(void)

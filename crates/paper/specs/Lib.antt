@@ -19,3 +19,4 @@ pub mod Ledger
 pub mod Outcome
 pub mod Computing
 pub mod Examples
+pub mod Cases
