@@ -328,12 +328,11 @@ module _ (t g l : List ℕ) (fresh : freshOutcome t g l .answer ≡ 0) (ms : Lis
     given-begins : gives placesInAll services guarantee limit dialogues s ≡ true → (rowKind (told reply .rows) ≡ rowBegin) × (contentOf (messageOut reply) ≡ Wire.Nothing)
     unfolding beginAt
     given-begins e =
-        let is : step (reached .to) (Receive s msg) ≡ beginAt (reached .to) s (lowestFree (reached .to)) msg (messageOf msg) = by-rule true e ∙ sym (yes true _ _ refl refl) in
-        (
+        let is : step (reached .to) (Receive s msg) ≡ beginAt (reached .to) s (lowestFree (reached .to)) msg (messageOf msg) = by-rule true e ∙ sym (yes true _ _ refl refl) in (
           ap (λ (x : Outcome). rowKind (told x .rows)) reply-is
-          ∙ ap (λ (x : Told). rowKind (x .rows))
-          (told-step (reached .to) (reached .fine) lent (Receive s msg) octets (stands-for (reached .to) (reached .fine) s msg rows space wide long) (receive-answers (reached .to) s msg h some-octets few))
-          ∙ ap (λ (x : Out). rowKind (x .rows)) is,
+              ∙ ap (λ (x : Told). rowKind (x .rows))
+              (told-step (reached .to) (reached .fine) lent (Receive s msg) octets (stands-for (reached .to) (reached .fine) s msg rows space wide long) (receive-answers (reached .to) s msg h some-octets few))
+              ∙ ap (λ (x : Out). rowKind (x .rows)) is,
           ap (λ (x : Outcome). contentOf (messageOut x)) (reply-is ∙ ap (given lent) is) ∙ nothing-content,
         )
 
