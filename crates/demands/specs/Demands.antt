@@ -21,13 +21,13 @@ use Rattle.paper.specs.Rows.{rowBegin}
 use Rattle.paper.specs.Writing.{causeAbortOctets}
 use Rattle.paper.specs.Invocations.{sent, wait, invocationOf}
 use Rattle.paper.specs.Asked.{oursOf}
-use Rattle.paper.specs.Dialogues.{needs, refusal}
+use Rattle.paper.specs.Dialogues.{Request, dialogueOpen, dialogueSent, dialogueReceived, dialogueActive, needs, refusal}
 use Rattle.paper.specs.Dialogues.Request.{Cancel, RejectTimeout}
-use Rattle.paper.specs.Calls.{Table, Call, Out, placeAt, guaranteeOf, limitOf, held, mayBegin, lowestFree, shows, octetsAt, numberAt, beginAt, step, freshTable}
+use Rattle.paper.specs.Calls.{Table, Call, Out, placeAt, owns, guaranteeOf, limitOf, held, mayBegin, lowestFree, shows, octetsAt, numberAt, beginAt, step, freshTable}
 use Rattle.paper.specs.Calls.Call.{OnDialogue, Receive}
 use Rattle.paper.specs.Layout.{encode, view}
 use Rattle.paper.specs.Rules.{rules}
-use Rattle.paper.specs.Outcome.{Lent, Outcome, Gives, spacesFor, standing, given, shown, refusedBy, outcome, freshOutcome, one}
+use Rattle.paper.specs.Outcome.{Lent, Outcome, Gives, spacesOf, spacesFor, standing, given, shown, refusedBy, outcome, freshOutcome, one}
 use Rattle.paper.specs.Contents.{Wire, contentOf}
 use Rattle.paper.specs.Ledger.{Entry, Ledger, Told, newLedger, find, forService, aborting, endedIn}
 use Rattle.readback.specs.Contents.{nothing-content, cause-abort-fits, cause-abort-content}
@@ -39,14 +39,14 @@ use Rattle.kept.specs.Tables.{outcome-ready, ready-rules}
 use Rattle.shares.specs.Share.{Shares, Sound, below-given, refused-at-limit, refused-full, refused-why}
 use Rattle.kept.specs.Shared.{shares as fine-shares, sound as fine-sound}
 use Rattle.kept.specs.Fresh.{fresh-fine, fresh-none}
-use Rattle.ledger.specs.Agrees.{Holds, At, Agrees, holds-owns}
+use Rattle.ledger.specs.Agrees.{Holds, At, Agrees, holds-owns, unknown-not-owned}
 use Rattle.ledger.specs.Steps.{fresh-agrees}
 use Rattle.ledger.specs.Homes.{Comes, rowFor, id-back, number-is, addressee-is, comes-home, comes-nowhere}
 use Rattle.demands.specs.Stands.{Stands, not-refused}
 use Rattle.demands.specs.Begins.{begin-step}
 use Rattle.demands.specs.History.{Made, gave, after, begunOf, endedOf, AllFormed, Reached, history, told, told-step}
 use Rattle.demands.specs.Booked.{ledgerOf, messageOut, heard, first-written, booked, Kept, kept, formed-append}
-use Rattle.demands.specs.Replies.{begun-told, asks, open-answer, stands-for, receive-answers, received-is, request-answered}
+use Rattle.demands.specs.Replies.{begun-told, asks, open-answer, stands-for, receive-answers, received-is, request-answered, unknown-answered, refusal-not-5}
 
 -- DEMAND 1: "a refusal changes no octet of table, rows or message space", for all octets, numbers and spaces lent
 pub refusal-changes-nothing : (l : Lent) (c : Call) → (outcome l c .answer ≡ 0 → ⊥) → outcome l c .lent ≡ l
@@ -139,7 +139,7 @@ module _ (t g l : List ℕ) (fresh : freshOutcome t g l .answer ≡ 0) (ms : Lis
         (stands-for (agreed .to) (agreed .fine) s msg rows space wide long) (receive-answers (agreed .to) s msg h some-octets few))
 
     -- finds that dialogue, in its service, from its first message on until it ends: its row comes first
-    pub finds-home : (e : Entry) → find (ledger .dialogues) d ≡ some e → e .service ≡ s → (e .state ≡ 2) ⊎ (e .state ≡ 4)
+    pub finds-home : (e : Entry) → find (ledger .dialogues) d ≡ some e → e .service ≡ s → (e .state ≡ dialogueSent) ⊎ (e .state ≡ dialogueActive)
         → Comes (told (gave (after start ms) comes) .rows) d (rowFor (messageOf msg))
     unfolding forService
     finds-home e q own st =
@@ -148,11 +148,11 @@ module _ (t g l : List ℕ) (fresh : freshOutcome t g l .answer ≡ 0) (ms : Lis
         (comes-home (agreed .to) (agreed .fine) ledger (agreed .agrees) s h msg octets some-octets few sound no-uni no-begin e
         (addressee-is msg d small names ledger s ∙ ap (forService s) q ∙ sym (eq _ _ _ _ own (ne _ _ _ _ (λ z. not-open st z) refl))) (not-received st)))
       where
-        not-open : (e .state ≡ 2) ⊎ (e .state ≡ 4) → e .state ≡ 1 → ⊥
+        not-open : (e .state ≡ dialogueSent) ⊎ (e .state ≡ dialogueActive) → e .state ≡ dialogueOpen → ⊥
         not-open (inl a) z = omega arith
         not-open (inr a) z = omega arith
 
-        not-received : (e .state ≡ 2) ⊎ (e .state ≡ 4) → e .state ≡ 3 → ⊥
+        not-received : (e .state ≡ dialogueSent) ⊎ (e .state ≡ dialogueActive) → e .state ≡ dialogueReceived → ⊥
         not-received (inl a) z = omega arith
         not-received (inr a) z = omega arith
 
@@ -188,6 +188,22 @@ module _ (t g l : List ℕ) (fresh : freshOutcome t g l .answer ≡ 0) (ms : Lis
             let u = turn (some e) ledger (agreed .to) (agreed .agrees) q e refl in
             let v = turn (some x) later (k .to) (k .agrees) z x refl in
             absurd (omega (arith, u, v))
+
+  -- a request or timer event names a dialogue of the ledger, and its service: else, and only then, the answer is 5 (where 1 and 3 don't apply)
+  module _ (s d : ℕ) (r : Request) (h : s < services) (rows space : List ℕ) (wide : spacesOf r .rows ≤ length rows) (long : spacesOf r .space ≤ length space) where
+    abbrev asked : Made
+    asked = record { call = OnDialogue s d r; rows = rows; space = space }
+
+    pub known-not-5 : (e : Entry) → find (ledger .dialogues) d ≡ some e → e .service ≡ s → gave (after start ms) asked .answer ≡ 5 → ⊥
+    known-not-5 e q own z =
+        refusal-not-5 (placeAt (agreed .to) (placeOf d)) r
+        (sym (request-answered (agreed .to) (agreed .fine) s d r rows space h (ap (λ (k : ℕ). owns (agreed .to) k d) (sym own) ∙ holds-owns (agreed .to) d e (entry-there d e q)) wide long)
+        ∙ sym (ap (λ (x : List ℕ). gave x asked .answer) (agreed .table)) ∙ z)
+
+    pub unknown-5 : ((e : Entry) → find (ledger .dialogues) d ≡ some e → e .service ≡ s → ⊥) → gave (after start ms) asked .answer ≡ 5
+    unknown-5 n =
+        ap (λ (x : List ℕ). gave x asked .answer) (agreed .table)
+        ∙ unknown-answered (agreed .to) (agreed .fine) s d r rows space h (unknown-not-owned (agreed .to) (agreed .fine) ledger (agreed .agrees) s d n) wide long
 
   -- DEMAND 2, INVOCATIONS: their states, played over the calls and the rows of the components received, are those of the table
   pub invocations-are : (d : ℕ) (e : Entry) → find (ledger .dialogues) d ≡ some e

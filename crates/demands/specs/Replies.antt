@@ -9,7 +9,8 @@ use Rattle.laws.specs.If.{ifEq, ifB, lt, eq, ne, ge, yes, no, by-eq, was-eq, wa
 use Rattle.paper.specs.Sizes.{placesInAll, services, placeOf}
 use Rattle.paper.specs.Shares.{sharesFit}
 use Rattle.paper.specs.Messages.{messageOf}
-use Rattle.paper.specs.Dialogues.{Place, Request, unlessRefused, refusal, does, request}
+use Rattle.paper.specs.Dialogues.{Place, Request, unlessRefused, overfull, invokeRefusal, resultRefusal, errorRefusal, rejectRefusal, needs, needsOpen, needsPeer, needsSent, uniRefusal, abortRefusal, refusal, does, request}
+use Rattle.paper.specs.Dialogues.Request.{Invoke, Result, Error, UserReject, Cancel, Begin, Continue, End, Prearranged, Abort, Unidirectional, Timeout, RejectTimeout, NoReaction}
 use Rattle.paper.specs.Calls.{Table, Out, placeAt, mayBegin, owns, stored, requested, opened, openedAt, lowestFree, refuse, receivedIf, step, freshTable}
 use Rattle.paper.specs.Calls.Call.{Open, OnDialogue, Receive}
 use Rattle.paper.specs.Layout.{encode, view}
@@ -17,6 +18,7 @@ use Rattle.paper.specs.Outcome.{Lent, Outcome, standing, spacesOf, spacesFor, n
 use Rattle.facts.specs.Fine.{Fine}
 use Rattle.facts.specs.Whole.{view-encode}
 use Rattle.facts.specs.Ready.{encode-stands}
+use Rattle.kept.specs.Leaves.{whether-eq, whether-lt, whether-b}
 use Rattle.kept.specs.Steps.{does-answers}
 use Rattle.demands.specs.Tails.{received-quiet}
 use Rattle.demands.specs.History.{Made, gave}
@@ -115,3 +117,49 @@ request-answered T f s d r rows space h o a b =
     by : (n : ℕ) → unlessRefused n x (does d x r) .answer ≡ n
     by zero = does-answers d x r
     by (suc n) = refl
+
+-- 5 is the answer to a dialogue that isn't that service's, and to nothing else
+pub unknown-answered : (T : Table) → Fine T → (s d : ℕ) (r : Request) (rows space : List ℕ) → s < services → owns T s d ≡ false
+    → spacesOf r .rows ≤ length rows → spacesOf r .space ≤ length space
+    → gave (encode T) (record { call = OnDialogue s d r; rows = rows; space = space }) .answer ≡ 5
+unfolding outcome standing step requested
+unknown-answered T f s d r rows space h o a b =
+    ap (λ (n : ℕ). shown n l (step (view (encode T)) (OnDialogue s d r)) .answer)
+    (sym (eq _ _ _ _ (encode-stands T f .0) (ge _ _ _ _ a (ge _ _ _ _ b (yes _ _ _ (encode-stands T f .1) refl)))))
+    ∙ ap (λ (U : Table). shown 0 l (step U (OnDialogue s d r)) .answer) (view-encode T f)
+    ∙ ap (λ (x : Out). shown 0 l x .answer) (sym (lt {r = refuse 5 T} _ _ _ _ h (no _ _ _ o refl)))
+    ∙ ap (λ (x : Outcome). x .answer) (sym (ne 5 0 _ _ (λ z. omega arith) refl))
+  where
+    l : Lent
+    l = record { table = encode T; rows = rows; space = space }
+
+abbrev Not5 : ℕ → Type 0
+Not5 n = n ≡ 5 → ⊥
+
+pub refusal-not-5 : (x : Place) (r : Request) → Not5 (refusal x r)
+unfolding refusal invokeRefusal resultRefusal errorRefusal rejectRefusal overfull needs needsOpen needsPeer needsSent uniRefusal abortRefusal
+refusal-not-5 x (Invoke id linked class op par) =
+    whether-lt Not5 _ _ _ _ (λ z. omega arith)
+    (whether-lt Not5 _ _ _ _ (λ z. omega arith)
+    (whether-eq Not5 _ _ _ _
+    (whether-eq Not5 _ _ _ _ (λ z. omega arith)
+    (whether-b Not5 _ _ _ (whether-b Not5 _ _ _ (whether-lt Not5 _ _ _ _ (λ z. omega arith) (λ z. omega arith)) (λ z. omega arith)) (λ z. omega arith)))
+    (λ z. omega arith)))
+refusal-not-5 x (Result tag id op par) =
+    whether-eq Not5 _ _ _ _ (λ z. omega arith) (whether-b Not5 _ _ _ (whether-lt Not5 _ _ _ _ (λ z. omega arith) (λ z. omega arith)) (λ z. omega arith))
+refusal-not-5 x (Error id err par) =
+    whether-eq Not5 _ _ _ _ (λ z. omega arith)
+    (whether-b Not5 _ _ _ (whether-b Not5 _ _ _ (whether-lt Not5 _ _ _ _ (λ z. omega arith) (λ z. omega arith)) (λ z. omega arith)) (λ z. omega arith))
+refusal-not-5 x (UserReject id p) =
+    whether-eq Not5 _ _ _ _ (λ z. omega arith)
+    (whether-eq Not5 _ _ _ _ (whether-b Not5 _ _ _ (whether-lt Not5 _ _ _ _ (λ z. omega arith) (λ z. omega arith)) (λ z. omega arith)) (λ z. omega arith))
+refusal-not-5 x (Cancel id) = whether-eq Not5 _ _ _ _ (λ z. omega arith) (λ z. omega arith)
+refusal-not-5 x Begin = whether-eq Not5 _ _ _ _ (λ z. omega arith) (λ z. omega arith)
+refusal-not-5 x Continue = whether-eq Not5 _ _ _ _ (λ z. omega arith) (whether-eq Not5 _ _ _ _ (λ z. omega arith) (λ z. omega arith))
+refusal-not-5 x End = whether-eq Not5 _ _ _ _ (λ z. omega arith) (whether-eq Not5 _ _ _ _ (λ z. omega arith) (λ z. omega arith))
+refusal-not-5 x Prearranged = λ z. omega arith
+refusal-not-5 x (Abort portion) = whether-b Not5 _ _ _ (whether-lt Not5 _ _ _ _ (λ z. omega arith) (λ z. omega arith)) (λ z. omega arith)
+refusal-not-5 x Unidirectional = whether-eq Not5 _ _ _ _ (whether-b Not5 _ _ _ (λ z. omega arith) (λ z. omega arith)) (λ z. omega arith)
+refusal-not-5 x (Timeout id) = whether-eq Not5 _ _ _ _ (λ z. omega arith) (λ z. omega arith)
+refusal-not-5 x (RejectTimeout id) = whether-eq Not5 _ _ _ _ (λ z. omega arith) (λ z. omega arith)
+refusal-not-5 x NoReaction = whether-eq Not5 _ _ _ _ (λ z. omega arith) (λ z. omega arith)

@@ -19,7 +19,7 @@ use Rattle.paper.specs.Ledger.{Entry, Ledger, hadPlace, endedIn, find, altered,
 use Rattle.readback.specs.Written.{AllAllowed}
 use Rattle.facts.specs.Fine.{Fine}
 use Rattle.facts.specs.Changes.{held-set, of-used, place-same, place-other}
-use Rattle.facts.specs.Owners.{Owned}
+use Rattle.facts.specs.Owners.{Owned, owned-is}
 use Rattle.kept.specs.Shared.{of-free}
 use Rattle.ledger.specs.Ours.{Ours}
 use Rattle.ledger.specs.Entries.{Distinct, mapped, find-altered, find-altered-other, distinct-altered, entries-altered, find-removed, find-removed-other, distinct-removed, entries-removed, find-added, find-added-other, distinct-added, entries-added}
@@ -91,6 +91,16 @@ module _ (T : Table) (f : Fine T) (L : Ledger) (g : Agrees T L) where
       go : (x : Option Entry) → find l d ≡ x → At (placeAt T (placeOf d)) d x → P
       go none q a = absurd (a (o .small) (o .state) (o .turn))
       go (some e) q a = k e q a
+
+  -- and one that the ledger doesn't have is not that service's
+  pub unknown-not-owned : (service d : ℕ) → ((e : Entry) → find l d ≡ some e → e .service ≡ service → ⊥) → owns T service d ≡ false
+  unknown-not-owned service d n = go (owns T service d) refl
+    where
+      go : (b : Bool) → owns T service d ≡ b → owns T service d ≡ false
+      go false q = q
+      go true q =
+          let o = owned-is T service d q in
+          absurd (owned-found service d o ⊥ (λ e z h. n e z (sym (h .is .service) ∙ o .service)))
 
   -- two IDs of one place: the ledger has at most the one whose turn the place has
   other-turn : (k d : ℕ) → (k ≡ d → ⊥) → placeOf k ≡ placeOf d → placeAt T (placeOf d) .control .turn ≡ turnOf d → find l k ≡ none
