@@ -5,20 +5,16 @@ use borrow.Author.Needs.{needs}
 use Rattle.acts.proofs.answer_problem.Statement.{statement}
 use Rattle.acts.proofs.answer_problem.Tie as tie
 
--- src/lib.rt:224:16
 add-result : tie.Need-add-result
 add-result c = search needs
 
--- src/lib.rt:224:9
 returns : tie.Need-returns
 unfolding answerProblem
 returns c = eq _ _ _ _ (omega arith) (omega arith)
 
--- src/lib.rt:226:5
 add-result-2 : tie.Need-add-result-2
 add-result-2 c = search needs
 
--- src/lib.rt:219:1
 returns-2 : tie.Need-returns-2
 unfolding answerProblem
 returns-2 c = ne _ _ _ _ (λ h. omega arith) (omega arith)

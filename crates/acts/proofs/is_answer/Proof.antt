@@ -5,17 +5,14 @@ use Rattle.paper.specs.Invocations.{isAnswer}
 use Rattle.acts.proofs.is_answer.Statement.{statement}
 use Rattle.acts.proofs.is_answer.Tie as tie
 
--- src/lib.rt:389:9
 returns : tie.Need-returns
 unfolding isAnswer
 returns c = eq _ _ _ _ (omega arith) refl
 
--- src/lib.rt:392:9
 returns-2 : tie.Need-returns-2
 unfolding isAnswer
 returns-2 c = ne _ _ _ _ (λ h. omega arith) (eq _ _ _ _ (omega arith) refl)
 
--- src/lib.rt:385:1
 returns-3 : tie.Need-returns-3
 unfolding isAnswer
 returns-3 c = ne _ _ _ _ (λ h. omega arith) (ne _ _ _ _ (λ h. omega arith) refl)

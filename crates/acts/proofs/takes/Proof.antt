@@ -3,47 +3,38 @@ use Rattle.laws.specs.Picks.{picks}
 use Rattle.acts.proofs.takes.Statement.{statement}
 use Rattle.acts.proofs.takes.Tie as tie
 
--- src/lib.rt:181:13
 returns : tie.Need-returns
 unfolding takes
 returns c = search picks
 
--- src/lib.rt:184:13
 returns-2 : tie.Need-returns-2
 unfolding takes
 returns-2 c = search picks
 
--- src/lib.rt:186:9
 returns-3 : tie.Need-returns-3
 unfolding takes
 returns-3 c = search picks
 
--- src/lib.rt:190:13
 returns-4 : tie.Need-returns-4
 unfolding takes
 returns-4 c = search picks
 
--- src/lib.rt:193:13
 returns-5 : tie.Need-returns-5
 unfolding takes
 returns-5 c = search picks
 
--- src/lib.rt:195:9
 returns-6 : tie.Need-returns-6
 unfolding takes
 returns-6 c = search picks
 
--- src/lib.rt:198:9
 returns-7 : tie.Need-returns-7
 unfolding takes
 returns-7 c = search picks
 
--- src/lib.rt:201:9
 returns-8 : tie.Need-returns-8
 unfolding takes
 returns-8 c = search picks
 
--- src/lib.rt:176:1
 returns-9 : tie.Need-returns-9
 unfolding takes
 returns-9 c = search picks

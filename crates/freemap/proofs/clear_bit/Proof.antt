@@ -8,29 +8,23 @@ use borrow.Author.Needs.{needs}
 use Rattle.freemap.proofs.clear_bit.Statement.{statement}
 use Rattle.freemap.proofs.clear_bit.Tie as tie
 
--- src/lib.rt:101:12
 slice-read-t : tie.Need-slice-read-t
 slice-read-t c = search needs
 
--- src/lib.rt:101:19
 array-read-t : tie.Need-array-read-t
 array-read-t c = search needs
 
--- src/lib.rt:101:12
 sub-t : tie.Need-sub-t
 sub-t c = let a = c .before .args in
     let r = c .before .pre in
     omega (arith, power-at (a .p % 8) (omega arith), bit-there (a .t .now) (a .p) (r .0) (r .1) (r .2))
 
--- src/lib.rt:101:5
 slice-write-t : tie.Need-slice-write-t
 slice-write-t c = search needs
 
--- src/lib.rt:95:1
 same-length : tie.Need-same-length
 same-length c = search needs
 
--- src/lib.rt:95:1
 returns : tie.Need-returns
 unfolding withoutBit
 returns c = let a = c .before .args in

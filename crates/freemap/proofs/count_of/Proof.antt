@@ -6,11 +6,9 @@ use Rattle.laws.specs.Digits.{digits, count, ones-count, count-append}
 use Rattle.freemap.proofs.count_of.Statement.{statement}
 use Rattle.freemap.proofs.count_of.Tie as tie
 
--- src/lib.rt:63:5
 add-result : tie.Need-add-result
 add-result c = omega (arith, ones-le 64 (c .args .low) (omega arith), ones-le 64 (c .args .high) (omega arith))
 
--- src/lib.rt:60:1
 returns : tie.Need-returns
 returns c = let low : c .args .low < 2 ^ 64 = omega arith in
     let high : c .args .high < 2 ^ 64 = omega arith in

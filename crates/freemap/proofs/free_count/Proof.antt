@@ -6,19 +6,15 @@ use borrow.Author.Needs.{needs}
 use Rattle.freemap.proofs.free_count.Statement.{statement}
 use Rattle.freemap.proofs.free_count.Tie as tie
 
--- src/lib.rt:71:14
 word-requires : tie.Need-word-requires
 word-requires c κs = search needs
 
--- src/lib.rt:71:26
 word-requires-2 : tie.Need-word-requires-2
 word-requires-2 c κs = search needs
 
--- src/lib.rt:71:5
 count-of-requires : tie.Need-count-of-requires
 count-of-requires c κs = search needs
 
--- src/lib.rt:67:1
 returns : tie.Need-returns
 returns c = let s = c .before .before .before in
     let t : List ℕ = s .before .args .t .now in

@@ -6,23 +6,18 @@ use borrow.Author.Needs.{needs}
 use Rattle.freemap.proofs.lowest_free.Statement.{statement}
 use Rattle.freemap.proofs.lowest_free.Tie as tie
 
--- src/lib.rt:57:15
 word-requires : tie.Need-word-requires
 word-requires c κs = search needs
 
--- src/lib.rt:57:27
 word-requires-2 : tie.Need-word-requires-2
 word-requires-2 c κs = search needs
 
--- src/lib.rt:57:5
 lowest-of-requires : tie.Need-lowest-of-requires
 lowest-of-requires c κs = search needs
 
--- src/lib.rt:57:5
 cast-result : tie.Need-cast-result
 cast-result c = search needs
 
--- src/lib.rt:53:1
 returns : tie.Need-returns
 returns c = let s = c .before .before .before in
     let t : List ℕ = s .before .args .t .now in

@@ -4,15 +4,12 @@ use Rattle.laws.specs.Digits.{lowest-two, lowest-high}
 use Rattle.freemap.proofs.lowest_of.Statement.{statement}
 use Rattle.freemap.proofs.lowest_of.Tie as tie
 
--- src/lib.rt:47:9
 returns : tie.Need-returns
 returns c = (lowest-two (c .before .args .low) (c .before .args .high) (omega arith) (omega arith), omega (arith, trailing-le 64 (c .before .args .low)))
 
--- src/lib.rt:49:12
 add-result : tie.Need-add-result
 add-result c = omega (arith, trailing-le 64 (c .before .args .high))
 
--- src/lib.rt:49:5
 returns-2 : tie.Need-returns-2
 returns-2 c = (lowest-high (c .before .args .low) (c .before .args .high) (omega arith), omega (arith, trailing-le 64 (c .before .args .high)))
 

@@ -8,29 +8,23 @@ use borrow.Author.Needs.{needs}
 use Rattle.freemap.proofs.set_bit.Statement.{statement}
 use Rattle.freemap.proofs.set_bit.Tie as tie
 
--- src/lib.rt:91:12
 slice-read-t : tie.Need-slice-read-t
 slice-read-t c = search needs
 
--- src/lib.rt:91:19
 array-read-t : tie.Need-array-read-t
 array-read-t c = search needs
 
--- src/lib.rt:91:12
 add-t : tie.Need-add-t
 add-t c = let a = c .before .args in
     let r = c .before .pre in
     omega (arith, power-at (a .p % 8) (omega arith), bit-room (a .t .now) (a .p) (r .0) (r .1) (omega (arith, c .slice-known .given (c .before .args .p / 8))) (r .2))
 
--- src/lib.rt:91:5
 slice-write-t : tie.Need-slice-write-t
 slice-write-t c = search needs
 
--- src/lib.rt:85:1
 same-length : tie.Need-same-length
 same-length c = search needs
 
--- src/lib.rt:85:1
 returns : tie.Need-returns
 unfolding withBit
 returns c = let a = c .before .args in

@@ -6,19 +6,15 @@ use borrow.Author.Needs.{needs}
 use Rattle.host.proofs.tcap_cancel.Statement.{statement}
 use Rattle.host.proofs.tcap_cancel.Tie as tie
 
--- src/lib.rt:151:9
 octet-of-requires : tie.Need-octet-of-requires
 octet-of-requires c κs = search needs
 
--- src/lib.rt:152:5
 cancel-requires : tie.Need-cancel-requires
 cancel-requires c κs = search needs
 
--- src/lib.rt:147:1
 same-length : tie.Need-same-length
 same-length c = search needs
 
--- src/lib.rt:147:1
 returns : tie.Need-returns
 returns c =
     let start = c .before .before .before .before .before .before in

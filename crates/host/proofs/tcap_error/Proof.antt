@@ -6,19 +6,15 @@ use borrow.Author.Needs.{needs}
 use Rattle.host.proofs.tcap_error.Statement.{statement}
 use Rattle.host.proofs.tcap_error.Tie as tie
 
--- src/lib.rt:129:9
 octet-of-requires : tie.Need-octet-of-requires
 octet-of-requires c κs = search needs
 
--- src/lib.rt:130:5
 error-requires : tie.Need-error-requires
 error-requires c κs = search needs
 
--- src/lib.rt:118:1
 same-length : tie.Need-same-length
 same-length c = search needs
 
--- src/lib.rt:118:1
 returns : tie.Need-returns
 returns c =
     let start = c .before .before .before .before .before .before .before .before in

@@ -7,19 +7,15 @@ use borrow.Author.Needs.{needs}
 use Rattle.host.proofs.tcap_invoke.Statement.{statement}
 use Rattle.host.proofs.tcap_invoke.Tie as tie
 
--- src/lib.rt:48:9
 octet-of-requires : tie.Need-octet-of-requires
 octet-of-requires c κs = search needs
 
--- src/lib.rt:49:5
 invoke-requires : tie.Need-invoke-requires
 invoke-requires c κs = search needs
 
--- src/lib.rt:36:1
 same-length : tie.Need-same-length
 same-length c = search needs
 
--- src/lib.rt:36:1
 returns : tie.Need-returns
 returns c =
     let start = c .before .before .before .before .before .before .before .before in

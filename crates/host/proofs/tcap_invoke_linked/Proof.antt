@@ -7,27 +7,21 @@ use borrow.Author.Needs.{needs}
 use Rattle.host.proofs.tcap_invoke_linked.Statement.{statement}
 use Rattle.host.proofs.tcap_invoke_linked.Tie as tie
 
--- src/lib.rt:74:9
 octet-of-requires : tie.Need-octet-of-requires
 octet-of-requires c κs = search needs
 
--- src/lib.rt:75:9
 octet-of-requires-2 : tie.Need-octet-of-requires-2
 octet-of-requires-2 c κs = search needs
 
--- src/lib.rt:81:9
 cast-invoke : tie.Need-cast-invoke
 cast-invoke c = search needs
 
--- src/lib.rt:76:5
 invoke-requires : tie.Need-invoke-requires
 invoke-requires c κs = search needs
 
--- src/lib.rt:61:1
 same-length : tie.Need-same-length
 same-length c = search needs
 
--- src/lib.rt:61:1
 returns : tie.Need-returns
 returns c =
     let start = c .before .before .before .before .before .before .before .before .before in

@@ -4,11 +4,9 @@ use borrow.Author.Needs.{needs}
 use Rattle.host.proofs.tcap_parameter.Statement.{statement}
 use Rattle.host.proofs.tcap_parameter.Tie as tie
 
--- src/lib.rt:45:9
 parameter-at-requires : tie.Need-parameter-at-requires
 parameter-at-requires c κs = search needs
 
--- src/lib.rt:40:1
 returns : tie.Need-returns
 returns c =
     let p = c .parameter-at .ensures in

@@ -6,19 +6,15 @@ use borrow.Author.Needs.{needs}
 use Rattle.host.proofs.tcap_reject.Statement.{statement}
 use Rattle.host.proofs.tcap_reject.Tie as tie
 
--- src/lib.rt:143:9
 octet-of-requires : tie.Need-octet-of-requires
 octet-of-requires c κs = search needs
 
--- src/lib.rt:144:5
 reject-requires : tie.Need-reject-requires
 reject-requires c κs = search needs
 
--- src/lib.rt:133:1
 same-length : tie.Need-same-length
 same-length c = search needs
 
--- src/lib.rt:133:1
 returns : tie.Need-returns
 returns c =
     let start = c .before .before .before .before .before .before in

@@ -6,19 +6,15 @@ use borrow.Author.Needs.{needs}
 use Rattle.host.proofs.tcap_reject_timeout.Statement.{statement}
 use Rattle.host.proofs.tcap_reject_timeout.Tie as tie
 
--- src/lib.rt:254:9
 octet-of-requires : tie.Need-octet-of-requires
 octet-of-requires c κs = search needs
 
--- src/lib.rt:255:5
 reject-timeout-requires : tie.Need-reject-timeout-requires
 reject-timeout-requires c κs = search needs
 
--- src/lib.rt:245:1
 same-length : tie.Need-same-length
 same-length c = search needs
 
--- src/lib.rt:245:1
 returns : tie.Need-returns
 returns c =
     let start = c .before .before .before .before .before .before in

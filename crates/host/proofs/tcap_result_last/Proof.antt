@@ -7,19 +7,15 @@ use borrow.Author.Needs.{needs}
 use Rattle.host.proofs.tcap_result_last.Statement.{statement}
 use Rattle.host.proofs.tcap_result_last.Tie as tie
 
--- src/lib.rt:99:9
 octet-of-requires : tie.Need-octet-of-requires
 octet-of-requires c κs = search needs
 
--- src/lib.rt:100:5
 result-requires : tie.Need-result-requires
 result-requires c κs = search needs
 
--- src/lib.rt:88:1
 same-length : tie.Need-same-length
 same-length c = search needs
 
--- src/lib.rt:88:1
 returns : tie.Need-returns
 returns c =
     let start = c .before .before .before .before .before .before .before .before in

@@ -7,19 +7,15 @@ use borrow.Author.Needs.{needs}
 use Rattle.host.proofs.tcap_result_not_last.Statement.{statement}
 use Rattle.host.proofs.tcap_result_not_last.Tie as tie
 
--- src/lib.rt:114:9
 octet-of-requires : tie.Need-octet-of-requires
 octet-of-requires c κs = search needs
 
--- src/lib.rt:115:5
 result-requires : tie.Need-result-requires
 result-requires c κs = search needs
 
--- src/lib.rt:103:1
 same-length : tie.Need-same-length
 same-length c = search needs
 
--- src/lib.rt:103:1
 returns : tie.Need-returns
 returns c =
     let start = c .before .before .before .before .before .before .before .before in

@@ -6,23 +6,18 @@ use borrow.Author.Needs.{needs}
 use Rattle.host.proofs.tcap_timeout.Statement.{statement}
 use Rattle.host.proofs.tcap_timeout.Tie as tie
 
--- src/lib.rt:241:9
 octet-of-requires : tie.Need-octet-of-requires
 octet-of-requires c κs = search needs
 
--- src/lib.rt:242:5
 timeout-requires : tie.Need-timeout-requires
 timeout-requires c κs = search needs
 
--- src/lib.rt:231:1
 same-length : tie.Need-same-length
 same-length c = search needs
 
--- src/lib.rt:231:1
 same-length-2 : tie.Need-same-length-2
 same-length-2 c = search needs
 
--- src/lib.rt:231:1
 returns : tie.Need-returns
 returns c =
     let start = c .before .before .before .before .before .before .before .before .before .before in

@@ -15,39 +15,31 @@ Inv-loop l i₀ i = (i ≤ 8) × (idleSlot l ≡ i + firstAt (isIdle) (drop i l)
 abbrev μ-loop : tie.MeasureT-loop
 μ-loop l i₀ i = 8 - i
 
--- src/lib.rt:27:5
 loop-holds : tie.Need-loop-holds Inv-loop μ-loop
 unfolding idleSlot
 loop-holds c = (omega arith, omega arith)
 
--- src/lib.rt:28:24
 mul-is-idle : tie.Need-mul-is-idle Inv-loop μ-loop
 mul-is-idle c = search needs
 
--- src/lib.rt:28:24
 array-copy-out-is-idle : tie.Need-array-copy-out-is-idle Inv-loop μ-loop
 array-copy-out-is-idle c = search needs
 
--- src/lib.rt:28:12
 is-idle-requires : tie.Need-is-idle-requires Inv-loop μ-loop
 is-idle-requires c κs = search needs
 
--- src/lib.rt:29:13
 returns : tie.Need-returns Inv-loop μ-loop
 returns c =
     let b = c .before .before .before .before in
     let n : length (b .before .args .t1) ≡ 8 = b .before .good .0 .1 .0 .1 in
     (omega (arith, b .loop .inv .1, first-hit isIdle noInvocation (b .before .args .t1) (b .loop .i) (omega arith) (sym (c .before .is-idle .ensures) ∙ c .if1 .taken)), omega arith)
 
--- src/lib.rt:31:9
 add-i : tie.Need-add-i Inv-loop μ-loop
 add-i c = search needs
 
--- src/lib.rt:27:5
 loop-less : tie.Need-loop-less Inv-loop μ-loop
 loop-less c = search needs
 
--- src/lib.rt:27:5
 loop-again : tie.Need-loop-again Inv-loop μ-loop
 loop-again c =
     let b = c .before .before .before .before in
@@ -55,7 +47,6 @@ loop-again c =
     let m = first-miss isIdle noInvocation (b .before .args .t1) (b .loop .i) (omega arith) (sym (c .before .is-idle .ensures) ∙ c .if1 .left) in
     (omega arith, omega (arith, b .loop .inv .1, m, ap (λ (k : ℕ). firstAt isIdle (drop k (b .before .args .t1))) (add-one (b .loop .i))))
 
--- src/lib.rt:22:1
 returns-2 : tie.Need-returns-2 Inv-loop μ-loop
 returns-2 c =
     let b = c .before in

@@ -8,23 +8,18 @@ use borrow.Author.Needs.{needs}
 use Rattle.invocations.proofs.invocation_at.Statement.{statement}
 use Rattle.invocations.proofs.invocation_at.Tie as tie
 
--- src/lib.rt:74:16
 mul-result : tie.Need-mul-result
 mul-result c = search needs
 
--- src/lib.rt:74:16
 array-copy-out-result : tie.Need-array-copy-out-result
 array-copy-out-result c = search needs
 
--- src/lib.rt:74:9
 returns : tie.Need-returns
 returns c = search needs
 
--- src/lib.rt:76:5
 no-invocation-requires : tie.Need-no-invocation-requires
 no-invocation-requires c κs = search needs
 
--- src/lib.rt:69:1
 returns-2 : tie.Need-returns-2
 returns-2 c =
     let b = c .before .before in

@@ -3,15 +3,12 @@ use borrow.Author.Needs.{needs}
 use Rattle.invocations.proofs.invocation_of.Statement.{statement}
 use Rattle.invocations.proofs.invocation_of.Tie as tie
 
--- src/lib.rt:83:9
 slot-of-requires : tie.Need-slot-of-requires
 slot-of-requires c κs = search needs
 
--- src/lib.rt:84:5
 invocation-at-requires : tie.Need-invocation-at-requires
 invocation-at-requires c κs = search needs
 
--- src/lib.rt:80:1
 returns : tie.Need-returns
 unfolding invocationOf
 returns c = cc

@@ -3,7 +3,6 @@ use Rattle.paper.specs.Invocations.{isIdle}
 use Rattle.invocations.proofs.is_idle.Statement.{statement}
 use Rattle.invocations.proofs.is_idle.Tie as tie
 
--- src/lib.rt:36:1
 returns : tie.Need-returns
 unfolding isIdle
 returns c = refl

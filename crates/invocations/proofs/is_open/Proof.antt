@@ -6,16 +6,13 @@ use borrow.Author.Needs.{needs}
 use Rattle.invocations.proofs.is_open.Statement.{statement}
 use Rattle.invocations.proofs.is_open.Tie as tie
 
--- src/lib.rt:16:9
 returns : tie.Need-returns
 unfolding isOpen
 returns c = eq _ _ _ _ (omega arith) refl
 
--- src/lib.rt:18:6
 cast-result : tie.Need-cast-result
 cast-result c = search needs
 
--- src/lib.rt:12:1
 returns-2 : tie.Need-returns-2
 unfolding isOpen
 returns-2 c = ne _ _ _ _ (λ h. omega arith) refl

@@ -5,27 +5,22 @@ use Rattle.paper.specs.Invocations.{mayReject}
 use Rattle.invocations.proofs.may_reject.Statement.{statement}
 use Rattle.invocations.proofs.may_reject.Tie as tie
 
--- src/lib.rt:435:9
 returns : tie.Need-returns
 unfolding mayReject
 returns c = eq _ _ _ _ (omega arith) refl
 
--- src/lib.rt:438:9
 returns-2 : tie.Need-returns-2
 unfolding mayReject
 returns-2 c = ne _ _ _ _ (λ h. omega arith) (eq _ _ _ _ (omega arith) refl)
 
--- src/lib.rt:442:13
 returns-3 : tie.Need-returns-3
 unfolding mayReject
 returns-3 c = ne _ _ _ _ (λ h. omega arith) (ne _ _ _ _ (λ h. omega arith) (eq _ _ _ _ (omega arith) (eq _ _ _ _ (omega arith) refl)))
 
--- src/lib.rt:444:9
 returns-4 : tie.Need-returns-4
 unfolding mayReject
 returns-4 c = ne _ _ _ _ (λ h. omega arith) (ne _ _ _ _ (λ h. omega arith) (eq _ _ _ _ (omega arith) (ne _ _ _ _ (λ h. omega arith) refl)))
 
--- src/lib.rt:431:1
 returns-5 : tie.Need-returns-5
 unfolding mayReject
 returns-5 c = ne _ _ _ _ (λ h. omega arith) (ne _ _ _ _ (λ h. omega arith) (ne _ _ _ _ (λ h. omega arith) refl))

@@ -3,11 +3,9 @@ use borrow.Author.Needs.{needs}
 use Rattle.invocations.proofs.sent_out.Statement.{statement}
 use Rattle.invocations.proofs.sent_out.Tie as tie
 
--- src/lib.rt:484:9
 transmit-all-requires : tie.Need-transmit-all-requires
 transmit-all-requires c κs = search needs
 
--- src/lib.rt:480:1
 returns : tie.Need-returns
 unfolding allTransmitted
 returns c = cc

@@ -8,19 +8,15 @@ use borrow.Author.Needs.{needs}
 use Rattle.invocations.proofs.state_at.Statement.{statement}
 use Rattle.invocations.proofs.state_at.Tie as tie
 
--- src/lib.rt:86:17
 mul-v : tie.Need-mul-v
 mul-v c = search needs
 
--- src/lib.rt:86:17
 array-copy-out-v : tie.Need-array-copy-out-v
 array-copy-out-v c = search needs
 
--- src/lib.rt:87:9
 returns : tie.Need-returns
 returns c = search needs
 
--- src/lib.rt:80:1
 returns-2 : tie.Need-returns-2
 returns-2 c =
     let b = c .before in

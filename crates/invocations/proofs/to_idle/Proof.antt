@@ -3,15 +3,12 @@ use borrow.Author.Needs.{needs}
 use Rattle.invocations.proofs.to_idle.Statement.{statement}
 use Rattle.invocations.proofs.to_idle.Tie as tie
 
--- src/lib.rt:101:9
 no-invocation-requires : tie.Need-no-invocation-requires
 no-invocation-requires c κs = search needs
 
--- src/lib.rt:102:5
 put-invocation-requires : tie.Need-put-invocation-requires
 put-invocation-requires c κs = search needs
 
--- src/lib.rt:97:1
 returns : tie.Need-returns
 unfolding toIdle
 returns c = cc

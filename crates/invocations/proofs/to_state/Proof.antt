@@ -3,19 +3,15 @@ use borrow.Author.Needs.{needs}
 use Rattle.invocations.proofs.to_state.Statement.{statement}
 use Rattle.invocations.proofs.to_state.Tie as tie
 
--- src/lib.rt:111:13
 mul-v : tie.Need-mul-v
 mul-v c = search needs
 
--- src/lib.rt:111:13
 array-copy-out-v : tie.Need-array-copy-out-v
 array-copy-out-v c = search needs
 
--- src/lib.rt:118:5
 put-invocation-requires : tie.Need-put-invocation-requires
 put-invocation-requires c κs = search needs
 
--- src/lib.rt:106:1
 returns : tie.Need-returns
 unfolding toState invocationOf
 returns c = cc

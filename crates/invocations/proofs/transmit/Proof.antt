@@ -6,21 +6,17 @@ use borrow.Author.Needs.{needs}
 use Rattle.invocations.proofs.transmit.Statement.{statement}
 use Rattle.invocations.proofs.transmit.Tie as tie
 
--- src/lib.rt:454:9
 returns : tie.Need-returns
 unfolding transmitted
 returns c = eq _ _ _ _ (omega arith) refl
 
--- src/lib.rt:462:9
 no-invocation-requires : tie.Need-no-invocation-requires
 no-invocation-requires c κs = search needs
 
--- src/lib.rt:462:9
 returns-2 : tie.Need-returns-2
 unfolding transmitted
 returns-2 c = ne _ _ _ _ (λ h. omega arith) (eq _ _ _ _ (omega arith) (c .no-invocation .ensures))
 
--- src/lib.rt:450:1
 returns-3 : tie.Need-returns-3
 unfolding transmitted
 returns-3 c = ne _ _ _ _ (λ h. omega arith) (ne _ _ _ _ (λ h. omega arith) refl)

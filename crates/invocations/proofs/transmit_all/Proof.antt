@@ -17,39 +17,30 @@ Inv-loop l m₀ i₀ m i = (i ≤ 8) × (m ≡ take i (map transmitted l) ++ dro
 abbrev μ-loop : tie.MeasureT-loop
 μ-loop l m₀ i₀ m i = 8 - i
 
--- src/lib.rt:473:5
 loop-holds : tie.Need-loop-holds Inv-loop μ-loop
 loop-holds c = (omega arith, refl)
 
--- src/lib.rt:474:25
 mul-transmit : tie.Need-mul-transmit Inv-loop μ-loop
 mul-transmit c = search needs
 
--- src/lib.rt:474:25
 array-copy-out-transmit : tie.Need-array-copy-out-transmit Inv-loop μ-loop
 array-copy-out-transmit c = search needs
 
--- src/lib.rt:474:16
 transmit-requires : tie.Need-transmit-requires Inv-loop μ-loop
 transmit-requires c κs = search needs
 
--- src/lib.rt:474:9
 mul-m : tie.Need-mul-m Inv-loop μ-loop
 mul-m c = search needs
 
--- src/lib.rt:474:9
 array-set-from-m : tie.Need-array-set-from-m Inv-loop μ-loop
 array-set-from-m c = search needs
 
--- src/lib.rt:475:9
 add-i : tie.Need-add-i Inv-loop μ-loop
 add-i c = search needs
 
--- src/lib.rt:473:5
 loop-less : tie.Need-loop-less Inv-loop μ-loop
 loop-less c = search needs
 
--- src/lib.rt:473:5
 loop-again : tie.Need-loop-again Inv-loop μ-loop
 loop-again c =
     let b = c .before .before .before in
@@ -62,7 +53,6 @@ loop-again c =
           ∙ ap (λ (k : ℕ). take k (map transmitted l) ++ drop k l) one,
     )
 
--- src/lib.rt:468:1
 returns : tie.Need-returns Inv-loop μ-loop
 returns c =
     let b = c .before in

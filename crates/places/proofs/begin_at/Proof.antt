@@ -9,21 +9,17 @@ use borrow.Author.Needs.{needs}
 use Rattle.places.proofs.begin_at.Statement.{statement}
 use Rattle.places.proofs.begin_at.Tie as tie
 
--- src/lib.rt:394:5
 put-control-requires : tie.Need-put-control-requires
 put-control-requires c κs = search needs
 
--- src/lib.rt:395:5
 clear-bit-requires : tie.Need-clear-bit-requires
 clear-bit-requires c κs = let k = c .before .before .before in
     let s = k .before .before .before in
     (s .pre .small, omega arith, ap (λ (u : List ℕ). mapBit u (s .args .p)) (k .put-control .ensures) ∙ begin-bit (s .args .t .now) (s .args .p) (s .args .c) (s .pre))
 
--- src/lib.rt:390:1
 same-length : tie.Need-same-length
 same-length c = search needs
 
--- src/lib.rt:390:1
 returns : tie.Need-returns
 returns c = let k = c .before .before .before .before .before .before in
     let s = k .before .before .before in

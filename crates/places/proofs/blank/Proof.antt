@@ -11,59 +11,45 @@ use borrow.Author.Needs.{needs}
 use Rattle.places.proofs.blank.Statement.{statement}
 use Rattle.places.proofs.blank.Tie as tie
 
--- src/lib.rt:348:34
 slice-read-turn-of : tie.Need-slice-read-turn-of
 slice-read-turn-of c = search needs
 
--- src/lib.rt:348:40
 slice-read-turn-of-2 : tie.Need-slice-read-turn-of-2
 slice-read-turn-of-2 c = search needs
 
--- src/lib.rt:348:46
 slice-read-turn-of-3 : tie.Need-slice-read-turn-of-3
 slice-read-turn-of-3 c = search needs
 
--- src/lib.rt:348:26
 turn-of-requires : tie.Need-turn-of-requires
 turn-of-requires c κs = search needs
 
--- src/lib.rt:348:9
 next-turn-requires : tie.Need-next-turn-requires
 next-turn-requires c κs = search needs
 
--- src/lib.rt:349:5
 clear-requires : tie.Need-clear-requires
 clear-requires c κs = search needs
 
--- src/lib.rt:350:12
 low-requires : tie.Need-low-requires
 low-requires c κs = search needs
 
--- src/lib.rt:350:5
 slice-write-s : tie.Need-slice-write-s
 slice-write-s c = search needs
 
--- src/lib.rt:351:12
 low-requires-2 : tie.Need-low-requires-2
 low-requires-2 c κs = search needs
 
--- src/lib.rt:351:5
 slice-write-s-2 : tie.Need-slice-write-s-2
 slice-write-s-2 c = simp length-set (omega arith)
 
--- src/lib.rt:352:12
 low-requires-3 : tie.Need-low-requires-3
 low-requires-3 c κs = search needs
 
--- src/lib.rt:352:5
 slice-write-s-3 : tie.Need-slice-write-s-3
 slice-write-s-3 c = simp length-set (omega arith)
 
--- src/lib.rt:344:1
 same-length : tie.Need-same-length
 same-length c = search needs
 
--- src/lib.rt:344:1
 returns : tie.Need-returns
 unfolding placeBy
 returns c = let z = c .before .before .before .before .before in

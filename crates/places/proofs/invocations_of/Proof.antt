@@ -2,39 +2,30 @@ use borrow.Author.Needs.{needs}
 use Rattle.places.proofs.invocations_of.Statement.{statement}
 use Rattle.places.proofs.invocations_of.Tie as tie
 
--- src/lib.rt:74:9
 invocation-at-requires : tie.Need-invocation-at-requires
 invocation-at-requires c κs = search needs
 
--- src/lib.rt:75:9
 invocation-at-requires-2 : tie.Need-invocation-at-requires-2
 invocation-at-requires-2 c κs = search needs
 
--- src/lib.rt:76:9
 invocation-at-requires-3 : tie.Need-invocation-at-requires-3
 invocation-at-requires-3 c κs = search needs
 
--- src/lib.rt:77:9
 invocation-at-requires-4 : tie.Need-invocation-at-requires-4
 invocation-at-requires-4 c κs = search needs
 
--- src/lib.rt:78:9
 invocation-at-requires-5 : tie.Need-invocation-at-requires-5
 invocation-at-requires-5 c κs = search needs
 
--- src/lib.rt:79:9
 invocation-at-requires-6 : tie.Need-invocation-at-requires-6
 invocation-at-requires-6 c κs = search needs
 
--- src/lib.rt:80:9
 invocation-at-requires-7 : tie.Need-invocation-at-requires-7
 invocation-at-requires-7 c κs = search needs
 
--- src/lib.rt:81:9
 invocation-at-requires-8 : tie.Need-invocation-at-requires-8
 invocation-at-requires-8 c κs = search needs
 
--- src/lib.rt:69:1
 returns : tie.Need-returns
 returns c = cc
 

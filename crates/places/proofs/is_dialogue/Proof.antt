@@ -4,45 +4,35 @@ use borrow.Author.Needs.{needs}
 use Rattle.places.proofs.is_dialogue.Statement.{statement}
 use Rattle.places.proofs.is_dialogue.Tie as tie
 
--- src/lib.rt:183:8
 shared-slice-read-if1 : tie.Need-shared-slice-read-if1
 shared-slice-read-if1 c = search needs
 
--- src/lib.rt:184:9
 returns : tie.Need-returns
 returns c = let a = c .before .before .before .args in
     dialogue-none (a .s .now) (a .service) (a .turn) (omega arith)
 
--- src/lib.rt:186:15
 shared-slice-read-number : tie.Need-shared-slice-read-number
 shared-slice-read-number c = search needs
 
--- src/lib.rt:186:8
 number-requires : tie.Need-number-requires
 number-requires c κs = search needs
 
--- src/lib.rt:187:9
 returns-2 : tie.Need-returns-2
 returns-2 c = let a = c .before .before .before .before .before .before .args in
     dialogue-other (a .s .now) (a .service) (a .turn) (λ z. omega arith) (λ z. omega arith)
 
--- src/lib.rt:189:20
 shared-slice-read-turn-of : tie.Need-shared-slice-read-turn-of
 shared-slice-read-turn-of c = search needs
 
--- src/lib.rt:189:26
 shared-slice-read-turn-of-2 : tie.Need-shared-slice-read-turn-of-2
 shared-slice-read-turn-of-2 c = search needs
 
--- src/lib.rt:189:32
 shared-slice-read-turn-of-3 : tie.Need-shared-slice-read-turn-of-3
 shared-slice-read-turn-of-3 c = search needs
 
--- src/lib.rt:189:12
 turn-of-requires : tie.Need-turn-of-requires
 turn-of-requires c κs = search needs
 
--- src/lib.rt:189:5
 returns-3 : tie.Need-returns-3
 returns-3 c = let a = c .before .before .before .before .before .before .before .before .before .before .args in
     dialogue-turn (a .s .now) (a .service) (a .turn) (λ z. omega arith) (omega arith) (c .turn-of .result) (c .turn-of .ensures .0)

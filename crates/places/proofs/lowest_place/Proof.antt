@@ -4,11 +4,9 @@ use borrow.Author.Needs.{needs}
 use Rattle.places.proofs.lowest_place.Statement.{statement}
 use Rattle.places.proofs.lowest_place.Tie as tie
 
--- src/lib.rt:211:5
 lowest-free-requires : tie.Need-lowest-free-requires
 lowest-free-requires c κs = search needs
 
--- src/lib.rt:207:1
 returns : tie.Need-returns
 returns c = let s = c .before .before in
     (c .lowest-free .ensures .0 ∙ ready-lowest (s .args .t .now) (s .pre), c .lowest-free .ensures .1)

@@ -7,44 +7,34 @@ use borrow.Author.Needs.{needs}
 use Rattle.places.proofs.owner.Statement.{statement}
 use Rattle.places.proofs.owner.Tie as tie
 
--- src/lib.rt:197:13
 cast-p : tie.Need-cast-p
 cast-p c = search needs
 
--- src/lib.rt:199:9
 returns : tie.Need-returns
 unfolding owns
 returns c = ge _ _ _ _ (omega arith) refl
 
--- src/lib.rt:201:18
 mul-a : tie.Need-mul-a
 mul-a c = search needs
 
--- src/lib.rt:201:13
 add-a : tie.Need-add-a
 add-a c = search needs
 
--- src/lib.rt:202:13
 add-e : tie.Need-add-e
 add-e c = search needs
 
--- src/lib.rt:203:24
 sub-is-dialogue : tie.Need-sub-is-dialogue
 sub-is-dialogue c = search needs
 
--- src/lib.rt:203:24
 part-is-dialogue-start : tie.Need-part-is-dialogue-start
 part-is-dialogue-start c = search needs
 
--- src/lib.rt:203:24
 part-is-dialogue-end : tie.Need-part-is-dialogue-end
 part-is-dialogue-end c = search needs
 
--- src/lib.rt:203:5
 is-dialogue-requires : tie.Need-is-dialogue-requires
 is-dialogue-requires c κs = search needs
 
--- src/lib.rt:203:5
 returns-2 : tie.Need-returns-2
 returns-2 c = let a = c .before .before .before .before .args in
     owner-is (a .t .now) (a .service) (a .dialogue) (c .is-dialogue .result) (omega arith) (c .is-dialogue .ensures)

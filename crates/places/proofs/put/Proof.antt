@@ -14,31 +14,24 @@ Inv-loop t₀ at octets i₀ t i = (i ≤ length octets) × (length t ≡ length
 abbrev μ-loop : tie.MeasureT-loop
 μ-loop t₀ at octets i₀ t i = length octets - i
 
--- src/lib.rt:228:5
 loop-holds : tie.Need-loop-holds Inv-loop μ-loop
 loop-holds c = (search needs, refl, refl)
 
--- src/lib.rt:229:21
 shared-slice-read-t : tie.Need-shared-slice-read-t Inv-loop μ-loop
 shared-slice-read-t c = search needs
 
--- src/lib.rt:229:11
 add-t : tie.Need-add-t Inv-loop μ-loop
 add-t c = search needs
 
--- src/lib.rt:229:9
 slice-write-t : tie.Need-slice-write-t Inv-loop μ-loop
 slice-write-t c = search needs
 
--- src/lib.rt:230:9
 add-i : tie.Need-add-i Inv-loop μ-loop
 add-i c = search needs
 
--- src/lib.rt:228:5
 loop-less : tie.Need-loop-less Inv-loop μ-loop
 loop-less c = search needs
 
--- src/lib.rt:228:5
 loop-again : tie.Need-loop-again Inv-loop μ-loop
 loop-again c = let b = c .before .before .before .args in
     let l = c .before .before .loop in (
@@ -47,11 +40,9 @@ loop-again c = let b = c .before .before .before .args in
       copied-more (b .t .now) (l .t) (b .at) (b .octets .now) (l .i) (l .inv .2) (omega arith),
     )
 
--- src/lib.rt:223:1
 same-length : tie.Need-same-length Inv-loop μ-loop
 same-length c = search needs
 
--- src/lib.rt:223:1
 returns : tie.Need-returns Inv-loop μ-loop
 returns c = let b = c .before .before .args in
     let e : c .before .loop .i ≡ length (b .octets .now) = omega arith in

@@ -8,47 +8,36 @@ use borrow.Author.Needs.{needs}
 use Rattle.places.proofs.put_control.Statement.{statement}
 use Rattle.places.proofs.put_control.Tie as tie
 
--- src/lib.rt:321:18
 mul-a : tie.Need-mul-a
 mul-a c = search needs
 
--- src/lib.rt:321:13
 add-a : tie.Need-add-a
 add-a c = search needs
 
--- src/lib.rt:324:17
 head-octets-requires : tie.Need-head-octets-requires
 head-octets-requires c κs = search needs
 
--- src/lib.rt:325:15
 slice-aggregate-put : tie.Need-slice-aggregate-put
 slice-aggregate-put c = search needs
 
--- src/lib.rt:325:5
 put-requires : tie.Need-put-requires
 put-requires c κs = search needs
 
--- src/lib.rt:326:24
 add-put-invocations : tie.Need-add-put-invocations
 add-put-invocations c = search needs
 
--- src/lib.rt:326:5
 put-invocations-requires : tie.Need-put-invocations-requires
 put-invocations-requires c κs = search needs
 
--- src/lib.rt:327:20
 add-put-rejects : tie.Need-add-put-rejects
 add-put-rejects c = search needs
 
--- src/lib.rt:327:5
 put-rejects-requires : tie.Need-put-rejects-requires
 put-rejects-requires c κs = search needs
 
--- src/lib.rt:317:1
 same-length : tie.Need-same-length
 same-length c = search needs
 
--- src/lib.rt:317:1
 returns : tie.Need-returns
 returns c = let third = c .before .before in
     let second = third .before .before .before .before in

@@ -16,43 +16,33 @@ Inv-loop t₀ at l i₀ t i = (i ≤ 8) × (length t ≡ length t₀) × (t ≡ 
 abbrev μ-loop : tie.MeasureT-loop
 μ-loop t₀ at l i₀ t i = 8 - i
 
--- src/lib.rt:291:5
 loop-holds : tie.Need-loop-holds Inv-loop μ-loop
 loop-holds c = (search needs, refl, refl)
 
--- src/lib.rt:292:17
 mul-v : tie.Need-mul-v Inv-loop μ-loop
 mul-v c = search needs
 
--- src/lib.rt:292:17
 array-copy-out-v : tie.Need-array-copy-out-v Inv-loop μ-loop
 array-copy-out-v c = search needs
 
--- src/lib.rt:293:26
 mul-put-pair : tie.Need-mul-put-pair Inv-loop μ-loop
 mul-put-pair c = search needs
 
--- src/lib.rt:293:21
 add-put-pair : tie.Need-add-put-pair Inv-loop μ-loop
 add-put-pair c = search needs
 
--- src/lib.rt:293:39
 invocation-mark-requires : tie.Need-invocation-mark-requires Inv-loop μ-loop
 invocation-mark-requires c κs = search needs
 
--- src/lib.rt:293:9
 put-pair-requires : tie.Need-put-pair-requires Inv-loop μ-loop
 put-pair-requires c κs = search needs
 
--- src/lib.rt:294:9
 add-i : tie.Need-add-i Inv-loop μ-loop
 add-i c = search needs
 
--- src/lib.rt:291:5
 loop-less : tie.Need-loop-less Inv-loop μ-loop
 loop-less c = search needs
 
--- src/lib.rt:291:5
 loop-again : tie.Need-loop-again Inv-loop μ-loop
 loop-again c = let p = c .before .before in
     let k = c .before .before .before .before .before .before .before in
@@ -62,11 +52,9 @@ loop-again c = let p = c .before .before in
       pairs-more invocationID invocationMark (s .args .t .now) (k .loop .t) (p .put-pair .last .0) (s .args .at) (s .args .t3) noInvocation (k .loop .i) _ _ (k .loop .inv .2) (omega arith) refl (c .before .before .before .invocation-mark .ensures) (p .put-pair .ensures),
     )
 
--- src/lib.rt:286:1
 same-length : tie.Need-same-length Inv-loop μ-loop
 same-length c = search needs
 
--- src/lib.rt:286:1
 returns : tie.Need-returns Inv-loop μ-loop
 returns c = let s = c .before .before .before in
     pairs-all invocationID invocationMark (s .args .t .now) (c .before .loop .t) (s .args .at) (s .args .t3) (c .before .loop .i) (c .before .loop .inv .2) (omega arith)

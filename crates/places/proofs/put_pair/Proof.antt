@@ -7,23 +7,18 @@ use borrow.Author.Needs.{needs}
 use Rattle.places.proofs.put_pair.Statement.{statement}
 use Rattle.places.proofs.put_pair.Tie as tie
 
--- src/lib.rt:276:5
 slice-write-t : tie.Need-slice-write-t
 slice-write-t c = search needs
 
--- src/lib.rt:277:7
 add-t : tie.Need-add-t
 add-t c = search needs
 
--- src/lib.rt:277:5
 slice-write-t-2 : tie.Need-slice-write-t-2
 slice-write-t-2 c = simp length-set (omega arith)
 
--- src/lib.rt:272:1
 same-length : tie.Need-same-length
 same-length c = search needs
 
--- src/lib.rt:272:1
 returns : tie.Need-returns
 returns c = let a = c .args in
     ap (λ (i : ℕ). set (set (a .t .now) (a .at) (a .a)) i (a .b)) (add-one (a .at))

@@ -5,43 +5,33 @@ use borrow.Author.Needs.{needs}
 use Rattle.places.proofs.sent_at.Statement.{statement}
 use Rattle.places.proofs.sent_at.Tie as tie
 
--- src/lib.rt:383:18
 mul-a : tie.Need-mul-a
 mul-a c = search needs
 
--- src/lib.rt:383:13
 add-a : tie.Need-add-a
 add-a c = search needs
 
--- src/lib.rt:384:13
 add-e : tie.Need-add-e
 add-e c = search needs
 
--- src/lib.rt:385:11
 sub-clear : tie.Need-sub-clear
 sub-clear c = search needs
 
--- src/lib.rt:385:11
 part-clear-start : tie.Need-part-clear-start
 part-clear-start c = search needs
 
--- src/lib.rt:385:11
 part-clear-end : tie.Need-part-clear-end
 part-clear-end c = search needs
 
--- src/lib.rt:385:5
 clear-requires : tie.Need-clear-requires
 clear-requires c κs = search needs
 
--- src/lib.rt:386:5
 put-control-requires : tie.Need-put-control-requires
 put-control-requires c κs = search needs
 
--- src/lib.rt:379:1
 same-length : tie.Need-same-length
 same-length c = search needs
 
--- src/lib.rt:379:1
 returns : tie.Need-returns
 returns c = let k = c .before .before .before .before .before .before in
     let s = k .before .before .before in

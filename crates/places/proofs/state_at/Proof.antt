@@ -3,23 +3,18 @@ use borrow.Author.Needs.{needs}
 use Rattle.places.proofs.state_at.Statement.{statement}
 use Rattle.places.proofs.state_at.Tie as tie
 
--- src/lib.rt:163:18
 mul-a : tie.Need-mul-a
 mul-a c = search needs
 
--- src/lib.rt:163:13
 add-a : tie.Need-add-a
 add-a c = search needs
 
--- src/lib.rt:164:7
 add-result : tie.Need-add-result
 add-result c = search needs
 
--- src/lib.rt:164:5
 shared-slice-read-result : tie.Need-shared-slice-read-result
 shared-slice-read-result c = search needs
 
--- src/lib.rt:159:1
 returns : tie.Need-returns
 returns c = let s = c .before in state-is (s .args .t .now) (s .args .p) (s .pre .0)
 

@@ -3,39 +3,30 @@ use borrow.Author.Needs.{needs}
 use Rattle.places.proofs.turn_at.Statement.{statement}
 use Rattle.places.proofs.turn_at.Tie as tie
 
--- src/lib.rt:154:18
 mul-a : tie.Need-mul-a
 mul-a c = search needs
 
--- src/lib.rt:154:13
 add-a : tie.Need-add-a
 add-a c = search needs
 
--- src/lib.rt:155:13
 shared-slice-read-turn-of : tie.Need-shared-slice-read-turn-of
 shared-slice-read-turn-of c = search needs
 
--- src/lib.rt:155:21
 add-turn-of : tie.Need-add-turn-of
 add-turn-of c = search needs
 
--- src/lib.rt:155:19
 shared-slice-read-turn-of-2 : tie.Need-shared-slice-read-turn-of-2
 shared-slice-read-turn-of-2 c = search needs
 
--- src/lib.rt:155:31
 add-turn-of-2 : tie.Need-add-turn-of-2
 add-turn-of-2 c = search needs
 
--- src/lib.rt:155:29
 shared-slice-read-turn-of-3 : tie.Need-shared-slice-read-turn-of-3
 shared-slice-read-turn-of-3 c = search needs
 
--- src/lib.rt:155:5
 turn-of-requires : tie.Need-turn-of-requires
 turn-of-requires c κs = search needs
 
--- src/lib.rt:150:1
 returns : tie.Need-returns
 returns c = let s = c .before .before .before .before .before in
     (turn-is (s .args .t .now) (s .args .p) (s .pre .0) (c .turn-of .result) (c .turn-of .ensures .0), c .turn-of .ensures .1)

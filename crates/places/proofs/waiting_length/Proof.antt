@@ -5,27 +5,21 @@ use borrow.Author.Needs.{needs}
 use Rattle.places.proofs.waiting_length.Statement.{statement}
 use Rattle.places.proofs.waiting_length.Tie as tie
 
--- src/lib.rt:163:18
 mul-a : tie.Need-mul-a
 mul-a c = search needs
 
--- src/lib.rt:163:13
 add-a : tie.Need-add-a
 add-a c = search needs
 
--- src/lib.rt:164:12
 add-wide : tie.Need-add-wide
 add-wide c = search needs
 
--- src/lib.rt:164:10
 shared-slice-read-wide : tie.Need-shared-slice-read-wide
 shared-slice-read-wide c = search needs
 
--- src/lib.rt:164:5
 wide-requires : tie.Need-wide-requires
 wide-requires c κs = search needs
 
--- src/lib.rt:159:1
 returns : tie.Need-returns
 returns c = let s = c .before .before .before in
     let e = c .wide .ensures .0 ∙ waits-is (s .args .t .now) (s .args .p) (s .pre .1) (s .pre .0) in

@@ -2,11 +2,9 @@ use borrow.Author.Needs.{needs}
 use Rattle.rows.proofs.cancel_row.Statement.{statement}
 use Rattle.rows.proofs.cancel_row.Tie as tie
 
--- src/lib.rt:86:9
 signed-requires : tie.Need-signed-requires
 signed-requires c κs = search needs
 
--- src/lib.rt:83:1
 returns : tie.Need-returns
 returns c = cc
 

@@ -4,20 +4,16 @@ use borrow.Author.Needs.{needs}
 use Rattle.rows.proofs.extent_of.Statement.{statement}
 use Rattle.rows.proofs.extent_of.Tie as tie
 
--- src/lib.rt:39:17
 sub-result : tie.Need-sub-result
 sub-result c = search needs
 
--- src/lib.rt:39:16
 cast-result : tie.Need-cast-result
 cast-result c = search needs
 
--- src/lib.rt:39:9
 returns : tie.Need-returns
 unfolding extentOf
 returns c = search picks
 
--- src/lib.rt:34:1
 returns-2 : tie.Need-returns-2
 unfolding extentOf
 returns-2 c = search picks

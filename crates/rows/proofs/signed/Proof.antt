@@ -4,21 +4,17 @@ use borrow.Author.Needs.{needs}
 use Rattle.rows.proofs.signed.Statement.{statement}
 use Rattle.rows.proofs.signed.Tie as tie
 
--- src/lib.rt:15:16
 add-result : tie.Need-add-result
 add-result c = search needs
 
--- src/lib.rt:15:9
 returns : tie.Need-returns
 unfolding signed
 returns c = search picks
 
--- src/lib.rt:18:9
 returns-2 : tie.Need-returns-2
 unfolding signed
 returns-2 c = search picks
 
--- src/lib.rt:11:1
 returns-3 : tie.Need-returns-3
 unfolding signed
 returns-3 c = search picks

@@ -4,27 +4,21 @@ use borrow.Author.Needs.{needs}
 use Rattle.rows.proofs.write_row.Statement.{statement}
 use Rattle.rows.proofs.write_row.Tie as tie
 
--- src/lib.rt:154:13
 octets-requires : tie.Need-octets-requires
 octets-requires c κs = search needs
 
--- src/lib.rt:155:28
 mul-copy-at : tie.Need-mul-copy-at
 mul-copy-at c = search needs
 
--- src/lib.rt:155:36
 slice-aggregate-copy-at : tie.Need-slice-aggregate-copy-at
 slice-aggregate-copy-at c = search needs
 
--- src/lib.rt:155:5
 copy-at-requires : tie.Need-copy-at-requires
 copy-at-requires c κs = search needs
 
--- src/lib.rt:149:1
 same-length : tie.Need-same-length
 same-length c = search needs
 
--- src/lib.rt:149:1
 returns : tie.Need-returns
 returns c = (c .before .before .copy-at .ensures .holds ∙ ap (sets _ _) (c .before .before .before .before .before .octets .ensures), c .before .before .copy-at .ensures .long)
 

@@ -5,12 +5,10 @@ use Rattle.paper.specs.Components.{nextStart}
 use Rattle.shows.proofs.next_start.Statement.{statement}
 use Rattle.shows.proofs.next_start.Tie as tie
 
--- src/lib.rt:29:9
 returns : tie.Need-returns
 unfolding nextStart
 returns c = eq _ _ _ _ (omega arith) refl
 
--- src/lib.rt:25:1
 returns-2 : tie.Need-returns-2
 unfolding nextStart
 returns-2 c = ne _ _ _ _ (λ h. omega arith) refl
