@@ -29,7 +29,8 @@ use Rattle.paper.specs.Layout.{encode, view}
 use Rattle.paper.specs.Rules.{rules}
 use Rattle.paper.specs.Outcome.{Lent, Outcome, Gives, spacesOf, spacesFor, standing, given, shown, refusedBy, outcome, freshOutcome, one}
 use Rattle.paper.specs.Contents.{Wire, contentOf}
-use Rattle.paper.specs.Ledger.{Entry, Ledger, Told, newLedger, find, forService, aborting, endedIn}
+use Rattle.paper.specs.Counting.{Told}
+use Rattle.paper.specs.Ledger.{Entry, Ledger, newLedger, find, forService, aborting, endedIn}
 use Rattle.readback.specs.Contents.{nothing-content, cause-abort-fits, cause-abort-content}
 use Rattle.messages.specs.Bounds.{message-in}
 use Rattle.facts.specs.Fine.{Octets}

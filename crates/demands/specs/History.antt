@@ -5,25 +5,22 @@ use mathlib.Core.Logic.{_⊎_, inl, inr}
 use Prim.Native.Nat.{ℕ, zero, suc, _+_, _*_, _≤_}
 use native.Mathlib.Omega.{arith}
 use lib.ListN.{length}
-use lib.Seq.{sets}
 use Rattle.laws.specs.If.{ifEq, eq, ne}
-use Rattle.laws.specs.Sums.{sumBy}
 use Rattle.paper.specs.declared.Row.{Row}
 use Rattle.paper.specs.Sizes.{services, placeOf}
-use Rattle.paper.specs.Rows.{rowsOctets, rowsAt, rowBegin, rowEnd, rowUserAbort, rowAbort}
+use Rattle.paper.specs.Rows.{rowsAt}
 use Rattle.paper.specs.Dialogues.{Place, Request, refusal, does, request, unlessRefused}
 use Rattle.paper.specs.Dialogues.Request.{Invoke, Result, Error, UserReject, Cancel, Begin, Continue, End, Prearranged, Abort, Unidirectional, Timeout, RejectTimeout, NoReaction}
 use Rattle.paper.specs.Calls.{Table, Call, Out, placeAt, held, stored, requested, opened, step}
 use Rattle.paper.specs.Calls.Call.{Open, OnDialogue, Receive}
 use Rattle.paper.specs.Layout.{encode, view}
-use Rattle.paper.specs.Ledger.{Told}
 use Rattle.paper.specs.Outcome.{Lent, Outcome, spacesOf, spacesFor, standing, given, shown, refusedBy, outcome}
 use Rattle.facts.specs.Fine.{Fine}
 use Rattle.facts.specs.Whole.{view-encode}
 use Rattle.kept.specs.Leaves.{whether-lt, whether-b}
-use Rattle.paper.specs.Counting.{isBegun, isEnded, openedBy, endsBy, serviceOf, begunBy, endedBy}
+use Rattle.paper.specs.Counting.{Told, toldBy, serviceOf, begunBy, endedBy}
 use Rattle.kept.specs.Steps.{WellFormed, Left, step-left, step-counted}
-use Rattle.demands.specs.Rows.{sumKinds, rows-back, kinds-back}
+use Rattle.demands.specs.Rows.{rows-back}
 use Rattle.demands.specs.Fits.{Fit, step-fit}
 use Rattle.demands.specs.Stands.{stands}
 
@@ -42,39 +39,18 @@ abbrev pub after : List ℕ → List Made → List ℕ
 after t [] = t
 after t (m ∷ ms) = after (gave t m .lent .table) ms
 
--- COUNTED FROM THE CALLS ALONE: the answer, and the kinds of the rows as they stand in the row space
-abbrev pub beginKind : ℕ → ℕ
-beginKind k = ifEq k rowBegin 1 0
+-- WHAT A HOST SEES of a call: its answer, the dialogue, and the rows that it reads from the row space
+abbrev pub told : Outcome → Told
+told o = record { answer = o .answer; dialogue = o .dialogue; rows = rowsAt (o .rows) 0 (o .lent .rows) }
 
-abbrev pub endKind : ℕ → ℕ
-endKind k = ifEq k rowEnd 1 (ifEq k rowUserAbort 1 (ifEq k rowAbort 1 0))
-
--- "begun is an open answered 0 or a BEGIN row"
-abbrev pub opens : Call → ℕ → ℕ
-opens (Open service) answer = openedBy answer
-opens (OnDialogue service dialogue r) answer = 0
-opens (Receive service s) answer = 0
-
-unfoldable pub begunAt : Call → Outcome → ℕ
-begunAt c o = sumKinds beginKind (o .rows) 0 (o .lent .rows) + opens c (o .answer)
-
--- "ended is an end, user abort or Unidirectional request answered 0, or a row 4, 5 or 6"
-abbrev pub ends : Call → ℕ → ℕ
-ends (Open service) answer = 0
-ends (OnDialogue service dialogue r) answer = endsBy r answer
-ends (Receive service s) answer = 0
-
-unfoldable pub endedAt : Call → Outcome → ℕ
-endedAt c o = sumKinds endKind (o .rows) 0 (o .lent .rows) + ends c (o .answer)
-
--- of one service, over a history
+-- COUNTED FROM THE CALLS ALONE (crates/paper/specs/Counting.antt): of one service, over a history
 abbrev pub begunOf : ℕ → List ℕ → List Made → ℕ
 begunOf s t [] = 0
-begunOf s t (m ∷ ms) = ifEq (serviceOf (m .call)) s (begunAt (m .call) (gave t m)) 0 + begunOf s (gave t m .lent .table) ms
+begunOf s t (m ∷ ms) = ifEq (serviceOf (m .call)) s (begunBy (m .call) (told (gave t m))) 0 + begunOf s (gave t m .lent .table) ms
 
 abbrev pub endedOf : ℕ → List ℕ → List Made → ℕ
 endedOf s t [] = 0
-endedOf s t (m ∷ ms) = ifEq (serviceOf (m .call)) s (endedAt (m .call) (gave t m)) 0 + endedOf s (gave t m .lent .table) ms
+endedOf s t (m ∷ ms) = ifEq (serviceOf (m .call)) s (endedBy (m .call) (told (gave t m))) 0 + endedOf s (gave t m .lent .table) ms
 
 -- ONE CALL: the table afterwards is a table that keeps the rules, and the count moves by what the call begins and ends
 pub record Next (T : Table) (m : Made) : Type 0 where
@@ -82,40 +58,21 @@ pub record Next (T : Table) (m : Made) : Type 0 where
   pub fine : Fine to
   pub table : gave (encode T) m .lent .table ≡ encode to
   pub shares : (to .guarantees ≡ T .guarantees) × (to .limits ≡ T .limits)
-  pub counts : (s : ℕ) → ifEq (serviceOf (m .call)) s (begunAt (m .call) (gave (encode T) m)) 0 + held (T .places) s
-      ≡ ifEq (serviceOf (m .call)) s (endedAt (m .call) (gave (encode T) m)) 0 + held (to .places) s
+  pub counts : (s : ℕ) → ifEq (serviceOf (m .call)) s (begunBy (m .call) (told (gave (encode T) m))) 0 + held (T .places) s
+      ≡ ifEq (serviceOf (m .call)) s (endedBy (m .call) (told (gave (encode T) m))) 0 + held (to .places) s
 
 -- a refusal begins and ends nothing
-refused-none : (c : Call) (n : ℕ) (l : Lent) → begunAt c (refusedBy (suc n) l) ≡ endedAt c (refusedBy (suc n) l)
-unfolding begunAt endedAt sumKinds
+refused-none : (c : Call) (n : ℕ) (l : Lent) → begunBy c (told (refusedBy (suc n) l)) ≡ endedBy c (told (refusedBy (suc n) l))
+unfolding rowsAt
 refused-none (Open service) n l = refl
 refused-none (OnDialogue service dialogue r) n l = refl
 refused-none (Receive service s) n l = refl
 
--- a call that is done begins and ends what its rows say, where they fit
-module _ (l : Lent) (o : Out) (done : o .answer ≡ 0) (fit : Fit (o .rows)) (room : 32 * length (o .rows) ≤ length (l .rows)) where
-  kinds : (f : ℕ → ℕ) → sumKinds f (length (o .rows)) 0 (sets (l .rows) 0 (rowsOctets (o .rows))) ≡ sumBy (λ (r : Row). f (r .kind)) (o .rows)
-  kinds f = kinds-back f (o .rows) 0 (l .rows) (fit .small) (omega (arith, room))
-
-  begins : sumKinds beginKind (length (o .rows)) 0 (sets (l .rows) 0 (rowsOctets (o .rows))) ≡ sumBy isBegun (o .rows)
-  unfolding isBegun
-  begins = kinds beginKind
-
-  ended : sumKinds endKind (length (o .rows)) 0 (sets (l .rows) 0 (rowsOctets (o .rows))) ≡ sumBy isEnded (o .rows)
-  unfolding isEnded
-  ended = kinds endKind
-
-  done-begins : (c : Call) → begunAt c (given l o) ≡ begunBy c o
-  unfolding begunAt
-  done-begins (Open service) = omega (arith, begins, ap openedBy done)
-  done-begins (OnDialogue service dialogue r) = omega (arith, begins)
-  done-begins (Receive service s) = omega (arith, begins)
-
-  done-ends : (c : Call) → endedAt c (given l o) ≡ endedBy c o
-  unfolding endedAt
-  done-ends (Open service) = omega (arith, ended)
-  done-ends (OnDialogue service dialogue r) = omega (arith, ended, ap (endsBy r) done)
-  done-ends (Receive service s) = omega (arith, ended)
+-- a call that is done tells its rows, where they fit
+told-given : (l : Lent) (o : Out) → o .answer ≡ 0 → Fit (o .rows) → 32 * length (o .rows) ≤ length (l .rows) → told (given l o) ≡ toldBy o
+told-given l o done fit room =
+    ap (λ (rs : List Row). record { answer = 0; dialogue = o .dialogue; rows = rs }) (rows-back (o .rows) 0 (l .rows) (fit .small) (omega (arith, room)))
+    ∙ ap (λ (n : ℕ). record { answer = n; dialogue = o .dialogue; rows = o .rows }) (sym done)
 
 -- A CALL WITHOUT A ROW SPACE has no rows
 quiet : (me : ℕ) (x : Place) (r : Request) → spacesOf r .rows ≡ 0 → does me x r .rows ≡ []
@@ -211,18 +168,18 @@ next T f m o = stand (standing l (spacesFor (m .call))) refl
 
     -- an outcome, and what follows from it
     by : (g : Outcome) → gave (encode T) m ≡ g → (U : Table) → Fine U → g .lent .table ≡ encode U → (U .guarantees ≡ T .guarantees) × (U .limits ≡ T .limits)
-        → ((s : ℕ) → ifEq (serviceOf (m .call)) s (begunAt (m .call) g) 0 + held (T .places) s ≡ ifEq (serviceOf (m .call)) s (endedAt (m .call) g) 0 + held (U .places) s)
+        → ((s : ℕ) → ifEq (serviceOf (m .call)) s (begunBy (m .call) (told g)) 0 + held (T .places) s ≡ ifEq (serviceOf (m .call)) s (endedBy (m .call) (told g)) 0 + held (U .places) s)
         → Next T m
     by g e U u q v w = record {
       to = U;
       fine = u;
       table = ap (λ (x : Outcome). x .lent .table) e ∙ q;
       shares = v;
-      counts = subst (λ (x : Outcome). (s : ℕ) → ifEq (serviceOf (m .call)) s (begunAt (m .call) x) 0 + held (T .places) s ≡ ifEq (serviceOf (m .call)) s (endedAt (m .call) x) 0 + held (U .places) s) (sym e) w;
+      counts = subst (λ (x : Outcome). (s : ℕ) → ifEq (serviceOf (m .call)) s (begunBy (m .call) (told x)) 0 + held (T .places) s ≡ ifEq (serviceOf (m .call)) s (endedBy (m .call) (told x)) 0 + held (U .places) s) (sym e) w;
     }
 
-    nothing : (n : ℕ) (s : ℕ) → ifEq (serviceOf (m .call)) s (begunAt (m .call) (refusedBy (suc n) l)) 0 + held (T .places) s
-        ≡ ifEq (serviceOf (m .call)) s (endedAt (m .call) (refusedBy (suc n) l)) 0 + held (T .places) s
+    nothing : (n : ℕ) (s : ℕ) → ifEq (serviceOf (m .call)) s (begunBy (m .call) (told (refusedBy (suc n) l))) 0 + held (T .places) s
+        ≡ ifEq (serviceOf (m .call)) s (endedBy (m .call) (told (refusedBy (suc n) l))) 0 + held (T .places) s
     nothing n s = ap (λ (k : ℕ). ifEq (serviceOf (m .call)) s k 0 + held (T .places) s) (refused-none (m .call) n l)
 
     done : (g : Out) → g ≡ step T (m .call) → g .answer ≡ 0 → standing l (spacesFor (m .call)) ≡ 0 → gave (encode T) m ≡ given l g → Next T m
@@ -239,11 +196,12 @@ next T f m o = stand (standing l (spacesFor (m .call))) refl
         room : 32 * length (g .rows) ≤ length (l .rows)
         room = subst (λ (x : Out). 32 * length (x .rows) ≤ length (l .rows)) (sym e) (rows-fit T f l (m .call) o st)
 
-        counts : (s : ℕ) → ifEq (serviceOf (m .call)) s (begunAt (m .call) (given l g)) 0 + held (T .places) s ≡ ifEq (serviceOf (m .call)) s (endedAt (m .call) (given l g)) 0 + held (g .table .places) s
+        counts : (s : ℕ) → ifEq (serviceOf (m .call)) s (begunBy (m .call) (told (given l g))) 0 + held (T .places) s ≡ ifEq (serviceOf (m .call)) s (endedBy (m .call) (told (given l g))) 0 + held (g .table .places) s
         counts s =
-            ap (λ (k : ℕ). ifEq (serviceOf (m .call)) s k 0 + held (T .places) s) (done-begins l g z fit room (m .call))
-            ∙ subst (λ (x : Out). ifEq (serviceOf (m .call)) s (begunBy (m .call) x) 0 + held (T .places) s ≡ ifEq (serviceOf (m .call)) s (endedBy (m .call) x) 0 + held (x .table .places) s) (sym e) (step-counted T f (m .call) o s)
-            ∙ ap (λ (k : ℕ). ifEq (serviceOf (m .call)) s k 0 + held (g .table .places) s) (sym (done-ends l g z fit room (m .call)))
+            let same : toldBy (step T (m .call)) ≡ told (given l g) = ap toldBy (sym e) ∙ sym (told-given l g z fit room) in
+            subst (λ (x : Told). ifEq (serviceOf (m .call)) s (begunBy (m .call) x) 0 + held (T .places) s ≡ ifEq (serviceOf (m .call)) s (endedBy (m .call) x) 0 + held (g .table .places) s) same
+            (subst (λ (x : Out). ifEq (serviceOf (m .call)) s (begunBy (m .call) (toldBy (step T (m .call)))) 0 + held (T .places) s ≡ ifEq (serviceOf (m .call)) s (endedBy (m .call) (toldBy (step T (m .call)))) 0 + held (x .table .places) s) (sym e)
+            (step-counted T f (m .call) o s))
 
     answered : (n : ℕ) → step T (m .call) .answer ≡ n → standing l (spacesFor (m .call)) ≡ 0 → gave (encode T) m ≡ shown 0 l (step T (m .call)) → Next T m
     answered zero z st w = done (step T (m .call)) refl z st (w ∙ sym (eq _ _ _ _ z refl))
@@ -268,13 +226,8 @@ history T f (m ∷ ms) o = on (next T f m (o .0)) (history (next T f m (o .0) .t
       counts = λ s. omega (arith, n .counts s, r .counts s, ap (λ (t : List ℕ). begunOf s t ms) (n .table), ap (λ (t : List ℕ). endedOf s t ms) (n .table));
     }
 
--- WHAT A HOST SEES OF A CALL: the answer, the dialogue and the rows, read from the row space that it lent
-abbrev pub told : Outcome → Told
-told o = record { answer = o .answer; dialogue = o .dialogue; rows = rowsAt (o .rows) 0 (o .lent .rows) }
-
 -- of one answered 0, the rows of its step
 pub told-step : (T : Table) → Fine T → (l : Lent) (c : Call) → WellFormed c → standing l (spacesFor c) ≡ 0 → step T c .answer ≡ 0
     → told (given l (step T c)) ≡ record { answer = 0; dialogue = step T c .dialogue; rows = step T c .rows }
 told-step T f l c o e z =
-    ap (λ (rs : List Row). record { answer = 0; dialogue = step T c .dialogue; rows = rs })
-    (rows-back (step T c .rows) 0 (l .rows) (step-fit T f c o .small) (omega (arith, rows-fit T f l c o e)))
+    told-given l (step T c) z (step-fit T f c o) (rows-fit T f l c o e) ∙ ap (λ (n : ℕ). record { answer = n; dialogue = step T c .dialogue; rows = step T c .rows }) z

@@ -10,7 +10,6 @@ use lib.Seq.{sets, length-sets}
 use lib.Dec.{ltb}
 use borrow.Author.Tests.{ltb-true}
 use Rattle.laws.specs.If.{by-eq}
-use Rattle.laws.specs.Sums.{sumBy}
 use Rattle.laws.specs.Runs.{join, inside}
 use Rattle.paper.specs.declared.Control.{Control}
 use Rattle.paper.specs.declared.Row.{Row}
@@ -124,18 +123,3 @@ rows-back (r ∷ rs) a l k h =
     let rest : rowsAt (length rs) (a + 32) (sets l a (rowOctets r ++ rowsOctets rs)) ≡ rs =
     ap (rowsAt (length rs) (a + 32)) (sym (join l a (rowOctets r) (rowsOctets rs))) ∙ rows-back rs (a + 32) m (λ i w. k (suc i) (omega arith)) (omega arith) in
     cc
-
--- a weight over the kinds of n rows from a position on, together: a row begins with its kind
-unfoldable pub sumKinds : (ℕ → ℕ) → ℕ → ℕ → List ℕ → ℕ
-sumKinds f zero a l = 0
-sumKinds f (suc n) a l = f (fourAt l a) + sumKinds f n (a + 32) l
-
-kinds-of-rows : (f : ℕ → ℕ) (n a : ℕ) (l : List ℕ) → sumKinds f n a l ≡ sumBy (λ (r : Row). f (r .kind)) (rowsAt n a l)
-unfolding sumKinds rowsAt rowAt
-kinds-of-rows f zero a l = refl
-kinds-of-rows f (suc n) a l = ap (λ (k : ℕ). f (fourAt l a) + k) (kinds-of-rows f n (a + 32) l)
-
--- so are their kinds
-pub kinds-back : (f : ℕ → ℕ) (rs : List Row) (a : ℕ) (l : List ℕ) → AllSmall rs → a + 32 * length rs ≤ length l
-    → sumKinds f (length rs) a (sets l a (rowsOctets rs)) ≡ sumBy (λ (r : Row). f (r .kind)) rs
-kinds-back f rs a l k h = kinds-of-rows f (length rs) a (sets l a (rowsOctets rs)) ∙ ap (sumBy (λ (r : Row). f (r .kind))) (rows-back rs a l k h)

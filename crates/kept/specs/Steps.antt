@@ -24,7 +24,7 @@ use Rattle.facts.specs.Owners.{Owned, owned-is}
 use Rattle.kept.specs.Leaves.{whether-eq}
 use Rattle.kept.specs.Acts.{AllReadable, all-acted-stays, components-readable}
 use Rattle.kept.specs.Requests.{peers, begun-fine, place-fine, control-goes-on, Formed, frees, Leaves, does-kept}
-use Rattle.paper.specs.Counting.{isBegun, isEnded, begunRows, endedRows, endsBy, serviceOf, begunBy, endedBy}
+use Rattle.paper.specs.Counting.{toldBy, isBegun, isEnded, begunRows, endedRows, endsBy, serviceOf, begunBy, endedBy}
 use Rattle.kept.specs.Counted.{row-begun, row-ended, row-other, components-none}
 use Rattle.kept.specs.Shared.{Moved, moved-as, not-moved, moved-freed, moved-on, moved-taken, lowest-there}
 
@@ -75,7 +75,7 @@ does-told me x NoReaction =
 
 -- WHAT A CALL LEFT, as it is counted
 abbrev pub Left : Table → Call → Out → Type 0
-Left T c o = Moved T (serviceOf c) (begunBy c o) (endedBy c o) (o .table)
+Left T c o = Moved T (serviceOf c) (begunBy c (toldBy o)) (endedBy c (toldBy o)) (o .table)
 
 -- whichever way a test went
 is : {T : Table} (c : Call) {a b : Out} → a ≡ b → Left T c b → Left T c a
@@ -334,14 +334,14 @@ module _ (T : Table) (f : Fine T) where
 
   -- and what a service holds more or less is what it began and ended by the call, if it made it
   pub step-counted : (c : Call) → WellFormed c → (k : ℕ)
-      → ifEq (serviceOf c) k (begunBy c (step T c)) 0 + held (T .places) k ≡ ifEq (serviceOf c) k (endedBy c (step T c)) 0 + held (step T c .table .places) k
+      → ifEq (serviceOf c) k (begunBy c (toldBy (step T c))) 0 + held (T .places) k ≡ ifEq (serviceOf c) k (endedBy c (toldBy (step T c))) 0 + held (step T c .table .places) k
   step-counted c w k =
       let l = step-left c w in
-      let b : ℕ = begunBy c (step T c) in
-      let e : ℕ = endedBy c (step T c) in
+      let b : ℕ = begunBy c (toldBy (step T c)) in
+      let e : ℕ = endedBy c (toldBy (step T c)) in
       by-eq {A = ℕ} (serviceOf c) k 0 0 refl
       (λ a _. omega (arith, eq {r = b} (serviceOf c) k b 0 a refl, eq {r = e} (serviceOf c) k e 0 a refl, own k (sym a) l))
       (λ a _. omega (arith, ne {r = 0} (serviceOf c) k b 0 a refl, ne {r = 0} (serviceOf c) k e 0 a refl, l .others k (λ z. a (sym z))))
     where
-      own : (j : ℕ) → j ≡ serviceOf c → Left T c (step T c) → begunBy c (step T c) + held (T .places) j ≡ endedBy c (step T c) + held (step T c .table .places) j
-      own j q l = subst (λ (i : ℕ). begunBy c (step T c) + held (T .places) i ≡ endedBy c (step T c) + held (step T c .table .places) i) (sym q) (l .own)
+      own : (j : ℕ) → j ≡ serviceOf c → Left T c (step T c) → begunBy c (toldBy (step T c)) + held (T .places) j ≡ endedBy c (toldBy (step T c)) + held (step T c .table .places) j
+      own j q l = subst (λ (i : ℕ). begunBy c (toldBy (step T c)) + held (T .places) i ≡ endedBy c (toldBy (step T c)) + held (step T c .table .places) i) (sym q) (l .own)

@@ -2,7 +2,7 @@
 -- "A received message"). Assumes nothing.
 use mathlib.Core.Bool.{Bool, true, false}
 use mathlib.Core.List.{List, [], _∷_}
-use Prim.Native.Nat.{ℕ, _+_, _*_, _-_}
+use Prim.Native.Nat.{ℕ, _+_, _*_}
 use lib.ListN.{length, getD, set, take, drop, replicate}
 use lib.Dec.{eqb}
 use Rattle.laws.specs.If.{ifLt, ifEq, ifB}
@@ -78,12 +78,12 @@ pub record Out : Type 0 where
 abbrev pub refuse : ℕ → Table → Out
 refuse n T = record { answer = n; dialogue = 0; rows = []; message = []; table = T }
 
--- "message dropped (no row, no message, no octet changed)" is answered by 0 too
-abbrev pub dropped : Table → Out
-dropped T = refuse 0 T
-
 abbrev pub shows : List Row → List ℕ → Table → Out
 shows rows message T = record { answer = 0; dialogue = 0; rows = rows; message = message; table = T }
+
+-- "message dropped (no row, no message, no octet changed)"
+abbrev pub dropped : Table → Out
+dropped T = shows [] [] T
 
 -- A REQUEST on a dialogue
 unfoldable pub stored : Table → ℕ → Done → Out

@@ -13,11 +13,11 @@ use Rattle.paper.specs.Rows.{signed, startOf, extentOf, componentRow, al
 use Rattle.paper.specs.Shares.{gives, sharesFit, sharesKept}
 use Rattle.paper.specs.Dialogues.{isElement, isCode, isParameter, isResult, isPortion, overfull, invokeRefusal, resultRefusal, errorRefusal, rejectRefusal, rejectedBy, needs, timeoutRows, allRejects, waitingRejects, rejectsFit, sentComponents, afterSending, needsOpen, needsPeer, needsSent, ofClass4, uniRefusal, abortRefusal, abortMessage, refusal, does, request}
 use Rattle.paper.specs.Calls.{Table, Call, Out, isFree, isOf, held, mayBegin, lowestFree, isDialogue, owns, stored, requested, opened, assigned, faultedAt, faulted, itemsOf, uniReceived, beginAt, beginReceived, continuedControl, continueReceived, endReceived, abortReceived, toDialogue, soundReceived, received, receivedIf, step, freshTable}
-use Rattle.paper.specs.Counting.{isEnded}
+use Rattle.paper.specs.Counting.{Told, isEnded}
 use Rattle.paper.specs.Rules.{hasPeer, isSoundItem}
 use Rattle.paper.specs.Contents.{Wire, partsOf, messageIn, contentOf}
 use Rattle.paper.specs.Asked.{oursOf, becomes, userRejects, allSent, releases, faultHeard, rejectHeard, heardOf, heardAll}
-use Rattle.paper.specs.Ledger.{Ledger, Told, find, altered, removed, fit, goes, stays, unsigned, rejectsIn, answered, shown, played, forService, addressee, isEntryOf, entriesOf, mayBeginIn, toEntry, causeOf, saidFor, said}
+use Rattle.paper.specs.Ledger.{Ledger, find, altered, removed, fit, goes, stays, unsigned, rejectsIn, answered, shown, played, forService, addressee, isEntryOf, entriesOf, mayBeginIn, toEntry, causeOf, saidFor, said}
 use Rattle.paper.specs.Readers.{parameterOf, parameterAt, parameter, soundItems, itemsBy, messageItems}
 
 unfoldable pub computed : Table → Call → Out

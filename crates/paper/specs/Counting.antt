@@ -10,6 +10,15 @@ use Rattle.paper.specs.Dialogues.Request.{Invoke, Result, Error, UserRej
 use Rattle.paper.specs.Calls.{Call, Out}
 use Rattle.paper.specs.Calls.Call.{Open, OnDialogue, Receive}
 
+-- WHAT A CALL TELLS a host, beside the message: its answer, the dialogue that an open gives, its rows
+pub record Told : Type 0 where
+  pub answer : ℕ
+  pub dialogue : ℕ
+  pub rows : List Row
+
+abbrev pub toldBy : Out → Told
+toldBy o = record { answer = o .answer; dialogue = o .dialogue; rows = o .rows }
+
 -- "a BEGIN row"; "a row 4, 5 or 6"
 unfoldable pub isBegun : Row → ℕ
 isBegun r = ifEq (r .kind) rowBegin 1 0
@@ -52,12 +61,12 @@ serviceOf (Open service) = service
 serviceOf (OnDialogue service dialogue r) = service
 serviceOf (Receive service s) = service
 
-abbrev pub begunBy : Call → Out → ℕ
-begunBy (Open service) o = begunRows (o .rows) + openedBy (o .answer)
-begunBy (OnDialogue service dialogue r) o = begunRows (o .rows)
-begunBy (Receive service s) o = begunRows (o .rows)
+abbrev pub begunBy : Call → Told → ℕ
+begunBy (Open service) t = begunRows (t .rows) + openedBy (t .answer)
+begunBy (OnDialogue service dialogue r) t = begunRows (t .rows)
+begunBy (Receive service s) t = begunRows (t .rows)
 
-abbrev pub endedBy : Call → Out → ℕ
-endedBy (Open service) o = endedRows (o .rows)
-endedBy (OnDialogue service dialogue r) o = endedRows (o .rows) + endsBy r (o .answer)
-endedBy (Receive service s) o = endedRows (o .rows)
+abbrev pub endedBy : Call → Told → ℕ
+endedBy (Open service) t = endedRows (t .rows)
+endedBy (OnDialogue service dialogue r) t = endedRows (t .rows) + endsBy r (t .answer)
+endedBy (Receive service s) t = endedRows (t .rows)

@@ -22,7 +22,7 @@ use Rattle.paper.specs.Dialogues.{Request, dialogueOpen, dialogueSent, d
 use Rattle.paper.specs.Dialogues.Request.{Invoke, Result, Error, UserReject, Cancel, Begin, Continue, End, Prearranged, Abort, Unidirectional, Timeout, RejectTimeout, NoReaction}
 use Rattle.paper.specs.Calls.{Call, octetsAt, destinationNumber, itemsOf}
 use Rattle.paper.specs.Calls.Call.{Open, OnDialogue, Receive}
-use Rattle.paper.specs.Counting.{isEnded}
+use Rattle.paper.specs.Counting.{Told, isEnded}
 use Rattle.paper.specs.Rules.{hasPeer}
 use Rattle.paper.specs.Invocations.{noInvocation}
 use Rattle.paper.specs.Contents.{Wire}
@@ -181,11 +181,6 @@ shown L service s (r ∷ rows) =
     (ifEq (r .kind) rowContinue (goesOn L (r .dialogue) (answered s rows)) (ifEq (isEnded r) 1 (ends L (r .dialogue)) L))
 
 -- A CALL, and what it told: a refusal changes nothing
-pub record Told : Type 0 where
-  pub answer : ℕ
-  pub dialogue : ℕ
-  pub rows : List Row
-
 abbrev pub playedBy : Ledger → Call → Told → Ledger
 playedBy L (Open service) t =
     begins L (record { id = t .dialogue; service = service; state = dialogueOpen; peer = []; passed = []; rejects = []; invocations = [] })
