@@ -29,7 +29,7 @@ use Rattle.paper.specs.Layout.{encode, view}
 use Rattle.paper.specs.Rules.{rules}
 use Rattle.paper.specs.Outcome.{Lent, Outcome, Gives, spacesOf, spacesFor, standing, given, shown, refusedBy, outcome, freshOutcome, one}
 use Rattle.paper.specs.Contents.{Wire, contentOf}
-use Rattle.paper.specs.Counting.{Told}
+use Rattle.paper.specs.Counting.{Notice}
 use Rattle.paper.specs.Ledger.{Entry, Ledger, newLedger, find, forService, aborting, endedIn}
 use Rattle.readback.specs.Contents.{nothing-content, cause-abort-fits, cause-abort-content}
 use Rattle.messages.specs.Bounds.{message-in}
@@ -135,7 +135,7 @@ module _ (t g l : List ℕ) (fresh : freshOutcome t g l .answer ≡ 0) (ms : Lis
     told-is : told (gave (after start ms) comes) .rows ≡ step (agreed .to) (Receive s msg) .rows
     told-is =
         ap (λ (x : Outcome). told x .rows) comes-is
-        ∙ ap (λ (x : Told). x .rows)
+        ∙ ap (λ (x : Notice). x .rows)
         (told-step (agreed .to) (agreed .fine) (record { table = encode (agreed .to); rows = rows; space = space }) (Receive s msg) octets
         (stands-for (agreed .to) (agreed .fine) s msg rows space wide long) (receive-answers (agreed .to) s msg h some-octets few))
 
@@ -347,7 +347,7 @@ module _ (t g l : List ℕ) (fresh : freshOutcome t g l .answer ≡ 0) (ms : Lis
     given-begins e =
         let is : step (reached .to) (Receive s msg) ≡ beginAt (reached .to) s (lowestFree (reached .to)) msg (messageOf msg) = by-rule true e ∙ sym (yes true _ _ refl refl) in (
           ap (λ (x : Outcome). rowKind (told x .rows)) reply-is
-              ∙ ap (λ (x : Told). rowKind (x .rows))
+              ∙ ap (λ (x : Notice). rowKind (x .rows))
               (told-step (reached .to) (reached .fine) lent (Receive s msg) octets (stands-for (reached .to) (reached .fine) s msg rows space wide long) (receive-answers (reached .to) s msg h some-octets few))
               ∙ ap (λ (x : Out). rowKind (x .rows)) is,
           ap (λ (x : Outcome). contentOf (messageOut x)) (reply-is ∙ ap (given lent) is) ∙ nothing-content,

@@ -18,7 +18,7 @@ use Rattle.paper.specs.Outcome.{Lent, Outcome, spacesOf, spacesFor, standing, g
 use Rattle.facts.specs.Fine.{Fine}
 use Rattle.facts.specs.Whole.{view-encode}
 use Rattle.kept.specs.Leaves.{whether-lt, whether-b}
-use Rattle.paper.specs.Counting.{Told, toldBy, serviceOf, begunBy, endedBy}
+use Rattle.paper.specs.Counting.{Notice, toldBy, serviceOf, begunBy, endedBy}
 use Rattle.kept.specs.Steps.{WellFormed, Left, step-left, step-counted}
 use Rattle.demands.specs.Rows.{rows-back}
 use Rattle.demands.specs.Fits.{Fit, step-fit}
@@ -40,7 +40,7 @@ after t [] = t
 after t (m ∷ ms) = after (gave t m .lent .table) ms
 
 -- WHAT A HOST SEES of a call: its answer, the dialogue, and the rows that it reads from the row space
-abbrev pub told : Outcome → Told
+abbrev pub told : Outcome → Notice
 told o = record { answer = o .answer; dialogue = o .dialogue; rows = rowsAt (o .rows) 0 (o .lent .rows) }
 
 -- COUNTED FROM THE CALLS ALONE (crates/paper/specs/Counting.antt): of one service, over a history
@@ -199,7 +199,7 @@ next T f m o = stand (standing l (spacesFor (m .call))) refl
         counts : (s : ℕ) → ifEq (serviceOf (m .call)) s (begunBy (m .call) (told (given l g))) 0 + held (T .places) s ≡ ifEq (serviceOf (m .call)) s (endedBy (m .call) (told (given l g))) 0 + held (g .table .places) s
         counts s =
             let same : toldBy (step T (m .call)) ≡ told (given l g) = ap toldBy (sym e) ∙ sym (told-given l g z fit room) in
-            subst (λ (x : Told). ifEq (serviceOf (m .call)) s (begunBy (m .call) x) 0 + held (T .places) s ≡ ifEq (serviceOf (m .call)) s (endedBy (m .call) x) 0 + held (g .table .places) s) same
+            subst (λ (x : Notice). ifEq (serviceOf (m .call)) s (begunBy (m .call) x) 0 + held (T .places) s ≡ ifEq (serviceOf (m .call)) s (endedBy (m .call) x) 0 + held (g .table .places) s) same
             (subst (λ (x : Out). ifEq (serviceOf (m .call)) s (begunBy (m .call) (toldBy (step T (m .call)))) 0 + held (T .places) s ≡ ifEq (serviceOf (m .call)) s (endedBy (m .call) (toldBy (step T (m .call)))) 0 + held (x .table .places) s) (sym e)
             (step-counted T f (m .call) o s))
 

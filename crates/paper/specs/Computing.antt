@@ -1,6 +1,7 @@
 -- TO COMPUTE with the definitions: naming `computed` in an `unfolding` line opens them all. Assumes nothing.
 use Rattle.laws.specs.If.{ifLt, ifEq, ifB}
 use Rattle.laws.specs.Lists.{pad, firstAt, every}
+use mathlib.Core.Option.{Option}
 use mathlib.Core.List.{List}
 use Prim.Native.Nat.{ℕ}
 use Rattle.paper.specs.Elements.{tagMore, tagEnd, lengthAt, headBy, headAt, ended, contents, element, frameAt}
@@ -13,11 +14,11 @@ use Rattle.paper.specs.Rows.{signed, startOf, extentOf, componentRow, al
 use Rattle.paper.specs.Shares.{gives, sharesFit, sharesKept}
 use Rattle.paper.specs.Dialogues.{isElement, isCode, isParameter, isResult, isPortion, overfull, invokeRefusal, resultRefusal, errorRefusal, rejectRefusal, rejectedBy, needs, timeoutRows, allRejects, waitingRejects, rejectsFit, sentComponents, afterSending, needsOpen, needsPeer, needsSent, ofClass4, uniRefusal, abortRefusal, abortMessage, refusal, does, request}
 use Rattle.paper.specs.Calls.{Table, Call, Out, isFree, isOf, held, mayBegin, lowestFree, isDialogue, owns, stored, requested, opened, assigned, faultedAt, faulted, itemsOf, uniReceived, beginAt, beginReceived, continuedControl, continueReceived, endReceived, abortReceived, toDialogue, soundReceived, received, receivedIf, step, freshTable}
-use Rattle.paper.specs.Counting.{Told, isEnded}
+use Rattle.paper.specs.Counting.{Notice, isEnded}
 use Rattle.paper.specs.Rules.{hasPeer, isSoundItem}
 use Rattle.paper.specs.Contents.{Wire, partsOf, messageIn, contentOf}
 use Rattle.paper.specs.Asked.{oursOf, becomes, userRejects, allSent, releases, faultHeard, rejectHeard, heardOf, heardAll}
-use Rattle.paper.specs.Ledger.{Ledger, find, altered, removed, fit, goes, stays, unsigned, rejectsIn, answered, shown, played, forService, addressee, isEntryOf, entriesOf, mayBeginIn, toEntry, causeOf, saidFor, said}
+use Rattle.paper.specs.Ledger.{Entry, Ledger, find, altered, removed, fit, goes, stays, unsigned, rejectsIn, answered, shown, played, forService, addressee, isEntryOf, entriesOf, mayBeginIn, toEntry, causeOf, saidFor, said}
 use Rattle.paper.specs.Readers.{parameterOf, parameterAt, parameter, soundItems, itemsBy, messageItems}
 
 unfoldable pub computed : Table → Call → Out
@@ -29,10 +30,14 @@ unfoldable pub booked : List ℕ → Wire
 unfolding computed isSoundItem partsOf messageIn contentOf
 booked s = contentOf s
 
-unfoldable pub noted : Ledger → Call → Told → Ledger
+unfoldable pub noted : Ledger → Call → Notice → Ledger
 unfolding computed isEnded oursOf becomes userRejects allSent releases faultHeard rejectHeard heardOf heardAll find altered removed octetsOf joined fit goes stays unsigned rejectsIn answered shown played
 noted L c t = played L c t
 
 unfoldable pub heard : Ledger → Call → Wire
 unfolding computed hasPeer find octetsOf joined fit goes forService addressee isEntryOf entriesOf mayBeginIn toEntry causeOf saidFor
 heard L c = said L c
+
+unfoldable pub looked : List Entry → ℕ → Option Entry
+unfolding computed find
+looked l d = find l d

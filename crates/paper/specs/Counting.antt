@@ -11,12 +11,12 @@ use Rattle.paper.specs.Calls.{Call, Out}
 use Rattle.paper.specs.Calls.Call.{Open, OnDialogue, Receive}
 
 -- WHAT A CALL TELLS a host, beside the message: its answer, the dialogue that an open gives, its rows
-pub record Told : Type 0 where
+pub record Notice : Type 0 where
   pub answer : ℕ
   pub dialogue : ℕ
   pub rows : List Row
 
-abbrev pub toldBy : Out → Told
+abbrev pub toldBy : Out → Notice
 toldBy o = record { answer = o .answer; dialogue = o .dialogue; rows = o .rows }
 
 -- "a BEGIN row"; "a row 4, 5 or 6"
@@ -61,12 +61,12 @@ serviceOf (Open service) = service
 serviceOf (OnDialogue service dialogue r) = service
 serviceOf (Receive service s) = service
 
-abbrev pub begunBy : Call → Told → ℕ
+abbrev pub begunBy : Call → Notice → ℕ
 begunBy (Open service) t = begunRows (t .rows) + openedBy (t .answer)
 begunBy (OnDialogue service dialogue r) t = begunRows (t .rows)
 begunBy (Receive service s) t = begunRows (t .rows)
 
-abbrev pub endedBy : Call → Told → ℕ
+abbrev pub endedBy : Call → Notice → ℕ
 endedBy (Open service) t = endedRows (t .rows)
 endedBy (OnDialogue service dialogue r) t = endedRows (t .rows) + endsBy r (t .answer)
 endedBy (Receive service s) t = endedRows (t .rows)

@@ -22,7 +22,7 @@ use Rattle.paper.specs.Dialogues.{Request, dialogueOpen, dialogueSent, d
 use Rattle.paper.specs.Dialogues.Request.{Invoke, Result, Error, UserReject, Cancel, Begin, Continue, End, Prearranged, Abort, Unidirectional, Timeout, RejectTimeout, NoReaction}
 use Rattle.paper.specs.Calls.{Call, octetsAt, destinationNumber, itemsOf}
 use Rattle.paper.specs.Calls.Call.{Open, OnDialogue, Receive}
-use Rattle.paper.specs.Counting.{Told, isEnded}
+use Rattle.paper.specs.Counting.{Notice, isEnded}
 use Rattle.paper.specs.Rules.{hasPeer}
 use Rattle.paper.specs.Invocations.{noInvocation}
 use Rattle.paper.specs.Contents.{Wire}
@@ -181,13 +181,13 @@ shown L service s (r ∷ rows) =
     (ifEq (r .kind) rowContinue (goesOn L (r .dialogue) (answered s rows)) (ifEq (isEnded r) 1 (ends L (r .dialogue)) L))
 
 -- A CALL, and what it told: a refusal changes nothing
-abbrev pub playedBy : Ledger → Call → Told → Ledger
+abbrev pub playedBy : Ledger → Call → Notice → Ledger
 playedBy L (Open service) t =
     begins L (record { id = t .dialogue; service = service; state = dialogueOpen; peer = []; passed = []; rejects = []; invocations = [] })
 playedBy L (OnDialogue service dialogue r) t = noted L dialogue r
 playedBy L (Receive service s) t = shown L service s (t .rows)
 
-unfoldable pub played : Ledger → Call → Told → Ledger
+unfoldable pub played : Ledger → Call → Notice → Ledger
 played L c t = ifEq (t .answer) 0 (playedBy L c t) L
 
 -- how many of the dialogues that ended had a place: as often it was freed

@@ -20,3 +20,4 @@ pub mod Outcome
 pub mod Computing
 pub mod Examples
 pub mod Cases
+pub mod LedgerCases
