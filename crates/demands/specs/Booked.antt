@@ -88,17 +88,17 @@ module _ (T : Table) (f : Fine T) (L : Ledger) (g : Agrees T L) (m : Made) (w : 
           other (suc n) a = refused n
 
 -- A HISTORY: the table it leads to, and the ledger, agree
-pub record Kept (t : List ℕ) (L : Ledger) (ms : List Made) : Type 0 where
+pub record Followed (t : List ℕ) (L : Ledger) (ms : List Made) : Type 0 where
   pub to : Table
   pub fine : Fine to
   pub table : after t ms ≡ encode to
   pub agrees : Agrees to (ledgerOf L t ms)
 
-pub kept : (T : Table) → Fine T → (L : Ledger) → Agrees T L → (ms : List Made) → AllFormed ms → Kept (encode T) L ms
-kept T f L g [] o = record { to = T; fine = f; table = refl; agrees = g }
-kept T f L g (m ∷ ms) o = on (booked T f L g m (o .0)) (kept _ (booked T f L g m (o .0) .fine) _ (booked T f L g m (o .0) .agrees) ms (o .1))
+pub follows : (T : Table) → Fine T → (L : Ledger) → Agrees T L → (ms : List Made) → AllFormed ms → Followed (encode T) L ms
+follows T f L g [] o = record { to = T; fine = f; table = refl; agrees = g }
+follows T f L g (m ∷ ms) o = on (booked T f L g m (o .0)) (follows _ (booked T f L g m (o .0) .fine) _ (booked T f L g m (o .0) .agrees) ms (o .1))
   where
-    on : (b : Booked T L m (gave (encode T) m)) → Kept (encode (b .to)) (played L (m .call) (told (gave (encode T) m))) ms → Kept (encode T) L (m ∷ ms)
+    on : (b : Booked T L m (gave (encode T) m)) → Followed (encode (b .to)) (played L (m .call) (told (gave (encode T) m))) ms → Followed (encode T) L (m ∷ ms)
     on b k = record {
       to = k .to;
       fine = k .fine;

@@ -19,7 +19,7 @@ use Rattle.paper.specs.Shares.{gives, others, free}
 use Rattle.paper.specs.Messages.{messageOf, isSound, uniTag, beginTag}
 use Rattle.paper.specs.Rows.{rowBegin}
 use Rattle.paper.specs.Writing.{causeAbortOctets}
-use Rattle.paper.specs.Invocations.{sent, wait, invocationOf}
+use Rattle.paper.specs.Invocations.{sent, wait, invocationOf, stateOf}
 use Rattle.paper.specs.Asked.{oursOf}
 use Rattle.paper.specs.Dialogues.{Request, dialogueOpen, dialogueSent, dialogueReceived, dialogueActive, needs, refusal}
 use Rattle.paper.specs.Dialogues.Request.{Cancel, RejectTimeout}
@@ -29,11 +29,11 @@ use Rattle.paper.specs.Layout.{encode, view}
 use Rattle.paper.specs.Rules.{rules}
 use Rattle.paper.specs.Outcome.{Lent, Outcome, Gives, spacesOf, spacesFor, standing, given, shown, refusedBy, outcome, freshOutcome, one}
 use Rattle.paper.specs.Contents.{Wire, contentOf}
-use Rattle.paper.specs.Counting.{Notice}
 use Rattle.paper.specs.Ledger.{Entry, Ledger, newLedger, find, forService, aborting, endedIn}
 use Rattle.readback.specs.Contents.{nothing-content, cause-abort-fits, cause-abort-content}
 use Rattle.messages.specs.Bounds.{message-in}
 use Rattle.facts.specs.Fine.{Octets}
+use Rattle.facts.specs.Whole.{view-encode}
 use Rattle.facts.specs.Ready.{Ready}
 use Rattle.kept.specs.Steps.{WellFormed}
 use Rattle.kept.specs.Tables.{outcome-ready, ready-rules}
@@ -45,9 +45,9 @@ use Rattle.ledger.specs.Steps.{fresh-agrees}
 use Rattle.ledger.specs.Homes.{Comes, rowFor, id-back, number-is, addressee-is, comes-home, comes-nowhere}
 use Rattle.demands.specs.Stands.{Stands, not-refused}
 use Rattle.demands.specs.Begins.{begin-step}
-use Rattle.demands.specs.History.{Made, gave, after, begunOf, endedOf, AllFormed, Reached, history, told, told-step}
-use Rattle.demands.specs.Booked.{ledgerOf, messageOut, heard, first-written, booked, Kept, kept, formed-append}
-use Rattle.demands.specs.Replies.{begun-told, asks, open-answer, stands-for, receive-answers, received-is, request-answered, unknown-answered, refusal-not-5}
+use Rattle.demands.specs.History.{Made, gave, after, begunOf, endedOf, AllFormed, Reached, history, told}
+use Rattle.demands.specs.Booked.{ledgerOf, messageOut, heard, first-written, booked, Followed, follows, formed-append}
+use Rattle.demands.specs.Replies.{begun-told, Wide, lentWith, gave-done, gave-rows, asks, open-answer, receive-answers, request-answered, unknown-answered, owned-not-5}
 
 -- DEMAND 1: "a refusal changes no octet of table, rows or message space", for all octets, numbers and spaces lent
 pub refusal-changes-nothing : (l : Lent) (c : Call) → (outcome l c .answer ≡ 0 → ⊥) → outcome l c .lent ≡ l
@@ -88,14 +88,14 @@ module _ (t g l : List ℕ) (fresh : freshOutcome t g l .answer ≡ 0) (ms : Lis
   abbrev pub ledger : Ledger
   ledger = ledgerOf (newLedger g l) start ms
 
-  booked-start : (ns : List Made) → AllFormed ns → Kept start (newLedger g l) ns
+  booked-start : (ns : List Made) → AllFormed ns → Followed start (newLedger g l) ns
   booked-start ns w =
       let b = begun-told t g l fresh in
-      subst (λ (x : List ℕ). Kept x (newLedger g l) ns) (sym (b .table))
-      (kept (freshTable g l) (fresh-fine g l (b .guarantees) (b .limits) (b .fit)) (newLedger g l) (fresh-agrees g l) ns w)
+      subst (λ (x : List ℕ). Followed x (newLedger g l) ns) (sym (b .table))
+      (follows (freshTable g l) (fresh-fine g l (b .guarantees) (b .limits) (b .fit)) (newLedger g l) (fresh-agrees g l) ns w)
 
   -- the ledger agrees with the table that the history left: the one relation between the two (crates/ledger/specs/Agrees.antt)
-  pub agreed : Kept start (newLedger g l) ms
+  pub agreed : Followed start (newLedger g l) ms
   agreed = booked-start ms o
 
   -- DEMAND 2, the messages: WHAT IS SENT IS WHAT THE CALLS PUT IN. The message that the next call writes, whichever it is, is read, by the
@@ -128,16 +128,14 @@ module _ (t g l : List ℕ) (fresh : freshOutcome t g l .answer ≡ 0) (ms : Lis
     abbrev comes : Made
     comes = record { call = Receive s msg; rows = rows; space = space }
 
-    comes-is : gave (after start ms) comes ≡ given (record { table = encode (agreed .to); rows = rows; space = space }) (step (agreed .to) (Receive s msg))
-    comes-is =
-        ap (λ (x : List ℕ). gave x comes) (agreed .table) ∙ received-is (agreed .to) (agreed .fine) s msg rows space wide long h some-octets few
+    comes-wide : Wide comes
+    comes-wide = record { rows = wide; space = long }
+
+    answers : step (agreed .to) (Receive s msg) .answer ≡ 0
+    answers = receive-answers (agreed .to) s msg h some-octets few
 
     told-is : told (gave (after start ms) comes) .rows ≡ step (agreed .to) (Receive s msg) .rows
-    told-is =
-        ap (λ (x : Outcome). told x .rows) comes-is
-        ∙ ap (λ (x : Notice). x .rows)
-        (told-step (agreed .to) (agreed .fine) (record { table = encode (agreed .to); rows = rows; space = space }) (Receive s msg) octets
-        (stands-for (agreed .to) (agreed .fine) s msg rows space wide long) (receive-answers (agreed .to) s msg h some-octets few))
+    told-is = ap (λ (x : List ℕ). told (gave x comes) .rows) (agreed .table) ∙ gave-rows (agreed .to) (agreed .fine) comes comes-wide octets answers
 
     -- finds that dialogue, in its service, from its first message on until it ends: its row comes first
     pub finds-home : (e : Entry) → find (ledger .dialogues) d ≡ some e → e .service ≡ s → (e .state ≡ dialogueSent) ⊎ (e .state ≡ dialogueActive)
@@ -161,8 +159,10 @@ module _ (t g l : List ℕ) (fresh : freshOutcome t g l .answer ≡ 0) (ms : Lis
     pub finds-nobody : forService s (find (ledger .dialogues) d) ≡ none
         → (told (gave (after start ms) comes) .rows ≡ []) × (gave (after start ms) comes .lent .table ≡ after start ms)
     finds-nobody q =
-        let w = comes-nowhere (agreed .to) (agreed .fine) ledger (agreed .agrees) s h msg octets some-octets few sound no-uni no-begin (addressee-is msg d small names ledger s ∙ q) in
-        (told-is ∙ w .0, ap (λ (x : Outcome). x .lent .table) comes-is ∙ ap encode (w .1) ∙ sym (agreed .table))
+        let w = comes-nowhere (agreed .to) (agreed .fine) ledger (agreed .agrees) s h msg octets some-octets few sound no-uni no-begin (addressee-is msg d small names ledger s ∙ q) in (
+          told-is ∙ w .0,
+          ap (λ (x : List ℕ). gave x comes .lent .table) (agreed .table) ∙ ap (λ (x : Outcome). x .lent .table) (gave-done (agreed .to) (agreed .fine) comes comes-wide answers) ∙ ap encode (w .1) ∙ sym (agreed .table),
+        )
 
   -- after its place was freed, an ID finds nobody until the turn has gone round: however the history goes on, by fewer than 16,777,216 dialogues
   -- that ended in this place, the ledger has none under it
@@ -174,7 +174,7 @@ module _ (t g l : List ℕ) (fresh : freshOutcome t g l .answer ≡ 0) (ms : Lis
         → endedIn (placeOf d) (later .ended) < endedIn (placeOf d) (ledger .ended) + 16777216 → find (later .dialogues) d ≡ none
     gone-until-round d e q a b = go (find (later .dialogues) d) refl (k .agrees .each d)
       where
-        k : Kept start (newLedger g l) (ms ++ ns)
+        k : Followed start (newLedger g l) (ms ++ ns)
         k = booked-start (ms ++ ns) (formed-append ms ns o w)
 
         turn : (x : Option Entry) (L : Ledger) (T : Table) → Agrees T L → find (L .dialogues) d ≡ x → (y : Entry) → x ≡ some y → turnOf d ≡ endedIn (placeOf d) (L .ended) % 16777216
@@ -190,21 +190,31 @@ module _ (t g l : List ℕ) (fresh : freshOutcome t g l .answer ≡ 0) (ms : Lis
             let v = turn (some x) later (k .to) (k .agrees) z x refl in
             absurd (omega (arith, u, v))
 
-  -- a request or timer event names a dialogue of the ledger, and its service: else, and only then, the answer is 5 (where 1 and 3 don't apply)
+  -- A REQUEST OR TIMER EVENT, with spaces of the right sizes
   module _ (s d : ℕ) (r : Request) (h : s < services) (rows space : List ℕ) (wide : spacesOf r .rows ≤ length rows) (long : spacesOf r .space ≤ length space) where
-    abbrev asked : Made
+    abbrev pub asked : Made
     asked = record { call = OnDialogue s d r; rows = rows; space = space }
 
+    asked-wide : Wide asked
+    asked-wide = record { rows = wide; space = long }
+
+    on-table : gave (after start ms) asked .answer ≡ gave (encode (agreed .to)) asked .answer
+    on-table = ap (λ (x : List ℕ). gave x asked .answer) (agreed .table)
+
+    owned : (e : Entry) → find (ledger .dialogues) d ≡ some e → e .service ≡ s → owns (agreed .to) s d ≡ true
+    owned e q own = ap (λ (k : ℕ). owns (agreed .to) k d) (sym own) ∙ holds-owns (agreed .to) d e (entry-there d e q)
+
+    -- it names a dialogue of the ledger, and its service: else, and only then, the answer is 5
     pub known-not-5 : (e : Entry) → find (ledger .dialogues) d ≡ some e → e .service ≡ s → gave (after start ms) asked .answer ≡ 5 → ⊥
     known-not-5 e q own z =
-        refusal-not-5 (placeAt (agreed .to) (placeOf d)) r
-        (sym (request-answered (agreed .to) (agreed .fine) s d r rows space h (ap (λ (k : ℕ). owns (agreed .to) k d) (sym own) ∙ holds-owns (agreed .to) d e (entry-there d e q)) wide long)
-        ∙ sym (ap (λ (x : List ℕ). gave x asked .answer) (agreed .table)) ∙ z)
+        owned-not-5 (record { table = encode (agreed .to); rows = rows; space = space }) s d r (ap (λ (U : Table). owns U s d) (view-encode (agreed .to) (agreed .fine)) ∙ owned e q own) (sym on-table ∙ z)
 
     pub unknown-5 : ((e : Entry) → find (ledger .dialogues) d ≡ some e → e .service ≡ s → ⊥) → gave (after start ms) asked .answer ≡ 5
     unknown-5 n =
-        ap (λ (x : List ℕ). gave x asked .answer) (agreed .table)
-        ∙ unknown-answered (agreed .to) (agreed .fine) s d r rows space h (unknown-not-owned (agreed .to) (agreed .fine) ledger (agreed .agrees) s d n) wide long
+        on-table ∙ unknown-answered (agreed .to) (agreed .fine) s d r rows space h asked-wide (unknown-not-owned (agreed .to) (agreed .fine) ledger (agreed .agrees) s d n)
+
+    asked-answered : (e : Entry) → find (ledger .dialogues) d ≡ some e → e .service ≡ s → gave (after start ms) asked .answer ≡ refusal (placeAt (agreed .to) (placeOf d)) r
+    asked-answered e q own = on-table ∙ request-answered (agreed .to) (agreed .fine) s d r rows space h asked-wide (owned e q own)
 
   -- DEMAND 2, INVOCATIONS: their states, played over the calls and the rows of the components received, are those of the table
   pub invocations-are : (d : ℕ) (e : Entry) → find (ledger .dialogues) d ≡ some e
@@ -213,21 +223,16 @@ module _ (t g l : List ℕ) (fresh : freshOutcome t g l .answer ≡ 0) (ms : Lis
 
   -- so a cancel is answered 0 exactly where the ledger's invocation is Sent, a reject timeout where it is in Wait; else 9
   module _ (d : ℕ) (e : Entry) (q : find (ledger .dialogues) d ≡ some e) (h : e .service < services) (id : ℕ) (rows space : List ℕ) where
-    pub cancel-answered : gave (after start ms) (record { call = OnDialogue (e .service) d (Cancel id); rows = rows; space = space }) .answer
-        ≡ ifEq (oursOf (e .invocations) id .state) sent 0 9
-    unfolding refusal needs
-    cancel-answered =
-        ap (λ (x : List ℕ). gave x (record { call = OnDialogue (e .service) d (Cancel id); rows = rows; space = space }) .answer) (agreed .table)
-        ∙ request-answered (agreed .to) (agreed .fine) (e .service) d (Cancel id) rows space h (holds-owns (agreed .to) d e (entry-there d e q)) (omega arith) (omega arith)
-        ∙ ap (λ (v : Invocation). ifEq (v .state) sent 0 9) (invocations-are d e q id)
+    by-state : (state : ℕ) → _≡_ {A = ℕ} (ifEq (stateOf (placeAt (agreed .to) (placeOf d) .control) id) state 0 9) (ifEq (oursOf (e .invocations) id .state) state 0 9)
+    by-state state = ap (λ (v : Invocation). ifEq (v .state) state 0 9) (invocations-are d e q id)
 
-    pub reject-timeout-answered : gave (after start ms) (record { call = OnDialogue (e .service) d (RejectTimeout id); rows = rows; space = space }) .answer
-        ≡ ifEq (oursOf (e .invocations) id .state) wait 0 9
+    pub cancel-answered : gave (after start ms) (asked (e .service) d (Cancel id) h rows space (omega arith) (omega arith)) .answer ≡ ifEq (oursOf (e .invocations) id .state) sent 0 9
     unfolding refusal needs
-    reject-timeout-answered =
-        ap (λ (x : List ℕ). gave x (record { call = OnDialogue (e .service) d (RejectTimeout id); rows = rows; space = space }) .answer) (agreed .table)
-        ∙ request-answered (agreed .to) (agreed .fine) (e .service) d (RejectTimeout id) rows space h (holds-owns (agreed .to) d e (entry-there d e q)) (omega arith) (omega arith)
-        ∙ ap (λ (v : Invocation). ifEq (v .state) wait 0 9) (invocations-are d e q id)
+    cancel-answered = asked-answered (e .service) d (Cancel id) h rows space (omega arith) (omega arith) e q refl ∙ by-state sent
+
+    pub reject-timeout-answered : gave (after start ms) (asked (e .service) d (RejectTimeout id) h rows space (omega arith) (omega arith)) .answer ≡ ifEq (oursOf (e .invocations) id .state) wait 0 9
+    unfolding refusal needs
+    reject-timeout-answered = asked-answered (e .service) d (RejectTimeout id) h rows space (omega arith) (omega arith) e q refl ∙ by-state wait
 
   -- DEMAND 3. The shares that fresh was given
   abbrev pub guarantee : ℕ → ℕ
@@ -329,11 +334,14 @@ module _ (t g l : List ℕ) (fresh : freshOutcome t g l .answer ≡ 0) (ms : Lis
     abbrev pub asker : List ℕ
     asker = octetsAt msg (messageOf msg .origin)
 
-    abbrev lent : Lent
-    lent = record { table = encode (reached .to); rows = rows; space = space }
+    begins-wide : Wide begins
+    begins-wide = record { rows = wide; space = long }
 
-    reply-is : reply ≡ given lent (step (reached .to) (Receive s msg))
-    reply-is = ap (λ (x : List ℕ). gave x begins) (reached .table) ∙ received-is (reached .to) (reached .fine) s msg rows space wide long h some-octets few
+    replies : step (reached .to) (Receive s msg) .answer ≡ 0
+    replies = receive-answers (reached .to) s msg h some-octets few
+
+    reply-is : reply ≡ given (lentWith (reached .to) begins) (step (reached .to) (Receive s msg))
+    reply-is = ap (λ (x : List ℕ). gave x begins) (reached .table) ∙ gave-done (reached .to) (reached .fine) begins begins-wide replies
 
     by-rule : (b : Bool) → gives placesInAll services guarantee limit dialogues s ≡ b
         → step (reached .to) (Receive s msg) ≡ ifB b (beginAt (reached .to) s (lowestFree (reached .to)) msg (messageOf msg)) (shows [] (causeAbortOctets asker 4) (reached .to))
@@ -346,11 +354,9 @@ module _ (t g l : List ℕ) (fresh : freshOutcome t g l .answer ≡ 0) (ms : Lis
     unfolding beginAt
     given-begins e =
         let is : step (reached .to) (Receive s msg) ≡ beginAt (reached .to) s (lowestFree (reached .to)) msg (messageOf msg) = by-rule true e ∙ sym (yes true _ _ refl refl) in (
-          ap (λ (x : Outcome). rowKind (told x .rows)) reply-is
-              ∙ ap (λ (x : Notice). rowKind (x .rows))
-              (told-step (reached .to) (reached .fine) lent (Receive s msg) octets (stands-for (reached .to) (reached .fine) s msg rows space wide long) (receive-answers (reached .to) s msg h some-octets few))
+          ap (λ (x : List ℕ). rowKind (told (gave x begins) .rows)) (reached .table) ∙ ap rowKind (gave-rows (reached .to) (reached .fine) begins begins-wide octets replies)
               ∙ ap (λ (x : Out). rowKind (x .rows)) is,
-          ap (λ (x : Outcome). contentOf (messageOut x)) (reply-is ∙ ap (given lent) is) ∙ nothing-content,
+          ap (λ (x : Outcome). contentOf (messageOut x)) (reply-is ∙ ap (given (lentWith (reached .to) begins)) is) ∙ nothing-content,
         )
 
     -- else it has no row, and an Abort with cause 4 goes to its originating ID
@@ -359,7 +365,7 @@ module _ (t g l : List ℕ) (fresh : freshOutcome t g l .answer ≡ 0) (ms : Lis
         let is : step (reached .to) (Receive s msg) ≡ shows [] (causeAbortOctets asker 4) (reached .to) = by-rule false e ∙ sym (no false _ _ refl refl) in
         let n : length asker ≡ messageOf msg .origin .length = asker-length in
         let some : 0 < messageOf msg .origin .length = message-in msg (messageOf msg) refl .begins fine begin in
-        ap (λ (x : Outcome). contentOf (messageOut x)) (reply-is ∙ ap (given lent) is)
+        ap (λ (x : Outcome). contentOf (messageOut x)) (reply-is ∙ ap (given (lentWith (reached .to) begins)) is)
         ∙ ap contentOf (first-written space (causeAbortOctets asker 4) (omega (arith, cause-abort-fits asker (omega arith) (omega (arith, message-in msg (messageOf msg) refl .origin .short)) 4)))
         ∙ cause-abort-content asker (omega arith) (omega (arith, message-in msg (messageOf msg) refl .origin .short)) 4 (omega arith)
       where

@@ -70,7 +70,7 @@ module _ (c : Control) (id : ℕ) where
 abbrev rejectsOf : ℕ → Acted → List Written
 rejectsOf id a = ifEq (a .kind) rowRejected (Written.Reject id (a .problem) ∷ []) []
 
-pub record Leaves (c : Control) (id : ℕ) (a : Acted) : Type 0 where
+pub record LeavesWaiting (c : Control) (id : ℕ) (a : Acted) : Type 0 where
   pub turn : a .control .turn ≡ c .turn
   pub state : a .control .state ≡ c .state
   pub service : a .control .service ≡ c .service
@@ -78,11 +78,11 @@ pub record Leaves (c : Control) (id : ℕ) (a : Acted) : Type 0 where
   pub waiting : waits (a .control) ≡ waits c ++ rejectsOf id a
 
 module _ (c : Control) (id : ℕ) where
-  abbrev Left : Acted → Type 0
-  Left = Leaves c id
+  abbrev Leaving : Acted → Type 0
+  Leaving = LeavesWaiting c id
 
   -- no reject of ours
-  none-left : (d : Control) (kind p : ℕ) → Alike c d → (kind ≡ 13 → ⊥) → Left (acted d kind p)
+  none-left : (d : Control) (kind p : ℕ) → Alike c d → (kind ≡ 13 → ⊥) → Leaving (acted d kind p)
   none-left d kind p a n = record {
     turn = a .turn;
     state = a .state;
@@ -96,11 +96,11 @@ module _ (c : Control) (id : ℕ) where
   map-more [] r = refl
   map-more (x ∷ l) r = ap (λ (k : List Written). rejectOf x ∷ k) (map-more l r)
 
-  rejected-left : (d : Control) (p : ℕ) → Alike c d → length (c .rejects) ≡ 8 → Left (rejected 8 d id p)
+  rejected-left : (d : Control) (p : ℕ) → Alike c d → length (c .rejects) ≡ 8 → Leaving (rejected 8 d id p)
   unfolding rejected
   rejected-left d p a e =
       by-lt {r = rejected 8 d id p} _ _ _ _ refl
-      (λ h z. subst Left (sym z) (record {
+      (λ h z. subst Leaving (sym z) (record {
         turn = a .turn;
         state = a .state;
         service = a .service;
@@ -112,7 +112,7 @@ module _ (c : Control) (id : ℕ) where
             ∙ map-more (take (d .count) (d .rejects)) r ∙ ap (λ (l : List Written). l ++ (Written.Reject id p ∷ [])) (alike-waits a)
             ∙ ap (λ (l : List Written). waits c ++ l) (eq 13 13 _ _ refl refl);
       }))
-      (λ h z. subst Left (sym z) (none-left d 14 p a (λ q. omega arith)))
+      (λ h z. subst Leaving (sym z) (none-left d 14 p a (λ q. omega arith)))
 
   reject-kind : (p : ℕ) → rejectKind p ≡ 13 → ⊥
   unfolding rejectKind
@@ -122,34 +122,34 @@ module _ (c : Control) (id : ℕ) where
   unfolding answerKind
   answer-kind tag = whether-eq (λ (n : ℕ). n ≡ 13 → ⊥) _ _ _ _ (λ q. omega arith) (whether-eq (λ (n : ℕ). n ≡ 13 → ⊥) _ _ _ _ (λ q. omega arith) (λ q. omega arith))
 
-  answers-left : (tag : ℕ) → length (c .rejects) ≡ 8 → Left (answers 8 c tag id)
+  answers-left : (tag : ℕ) → length (c .rejects) ≡ 8 → Leaving (answers 8 c tag id)
   unfolding answers answersSent
   answers-left tag e =
-      whether-eq Left _ _ _ _
-      (whether-eq Left _ _ _ _ (rejected-left (toIdle c id) _ (idle-alike c id) e)
-      (whether-eq Left _ _ _ _ (none-left _ _ _ (shown-alike c id) (answer-kind tag)) (none-left _ _ _ (state-alike c id 3) (answer-kind tag))))
+      whether-eq Leaving _ _ _ _
+      (whether-eq Leaving _ _ _ _ (rejected-left (toIdle c id) _ (idle-alike c id) e)
+      (whether-eq Leaving _ _ _ _ (none-left _ _ _ (shown-alike c id) (answer-kind tag)) (none-left _ _ _ (state-alike c id 3) (answer-kind tag))))
       (rejected-left c _ (alike-self c) e)
 
-  invokes-left : (linked : ℕ) → length (c .rejects) ≡ 8 → Left (invokes 8 c id linked)
+  invokes-left : (linked : ℕ) → length (c .rejects) ≡ 8 → Leaving (invokes 8 c id linked)
   unfolding invokes
   invokes-left linked e =
-      whether-eq Left _ _ _ _ (none-left c _ _ (alike-self c) (λ q. omega arith))
-      (whether-eq Left _ _ _ _ (none-left c _ _ (alike-self c) (λ q. omega arith)) (rejected-left c _ (alike-self c) e))
+      whether-eq Leaving _ _ _ _ (none-left c _ _ (alike-self c) (λ q. omega arith))
+      (whether-eq Leaving _ _ _ _ (none-left c _ _ (alike-self c) (λ q. omega arith)) (rejected-left c _ (alike-self c) e))
 
-  rejects-left : (p : ℕ) → Left (rejects c id p)
+  rejects-left : (p : ℕ) → Leaving (rejects c id p)
   unfolding rejects
-  rejects-left p = whether-lt Left _ _ _ _ (none-left _ _ _ (released-alike c id) (reject-kind p)) (none-left _ _ _ (alike-self c) (reject-kind p))
+  rejects-left p = whether-lt Leaving _ _ _ _ (none-left _ _ _ (released-alike c id) (reject-kind p)) (none-left _ _ _ (alike-self c) (reject-kind p))
 
-act-left : (c : Control) (p : Component) → length (c .rejects) ≡ 8 → Leaves c (p .id) (act 8 c p)
+act-left : (c : Control) (p : Component) → length (c .rejects) ≡ 8 → LeavesWaiting c (p .id) (act 8 c p)
 unfolding act faults faultyReject
 act-left c p e =
     let id : ℕ = p .id in
-    whether-eq (Leaves c id) _ _ _ _
-    (whether-eq (Leaves c id) _ _ _ _ (invokes-left c id (p .linked) e)
-    (whether-eq (Leaves c id) _ _ _ _ (rejects-left c id (p .problem)) (answers-left c id (p .tag) e)))
-    (whether-eq (Leaves c id) _ _ _ _
-    (whether-eq (Leaves c id) _ _ _ _ (none-left c id _ _ _ (alike-self c) (λ q. omega arith)) (none-left c id _ _ _ (released-alike c id) (λ q. omega arith)))
-    (whether-b (Leaves c id) _ _ _ (rejected-left c id _ _ (released-alike c id) e) (rejected-left c id _ _ (alike-self c) e)))
+    whether-eq (LeavesWaiting c id) _ _ _ _
+    (whether-eq (LeavesWaiting c id) _ _ _ _ (invokes-left c id (p .linked) e)
+    (whether-eq (LeavesWaiting c id) _ _ _ _ (rejects-left c id (p .problem)) (answers-left c id (p .tag) e)))
+    (whether-eq (LeavesWaiting c id) _ _ _ _
+    (whether-eq (LeavesWaiting c id) _ _ _ _ (none-left c id _ _ _ (alike-self c) (λ q. omega arith)) (none-left c id _ _ _ (released-alike c id) (λ q. omega arith)))
+    (whether-b (LeavesWaiting c id) _ _ _ (rejected-left c id _ _ (released-alike c id) e) (rejected-left c id _ _ (alike-self c) e)))
 
 -- THE ROW of a component tells its reject
 row-tells : (me : ℕ) (c : Control) (i : Item) (rows : List Row) → i .part .id ≤ 256
@@ -162,14 +162,14 @@ row-tells me c i rows h =
     (λ a z. z ∙ ap (λ (l : List Written). l ++ rejectsIn rows) (ne _ _ _ _ a refl))
 
 -- ALL COMPONENTS
-pub record AllLeft (c d : Control) (ws : List Written) : Type 0 where
+pub record AllLeaveWaiting (c d : Control) (ws : List Written) : Type 0 where
   pub turn : d .turn ≡ c .turn
   pub state : d .state ≡ c .state
   pub service : d .service ≡ c .service
   pub peer : peerOf d ≡ peerOf c
   pub waiting : waits d ≡ waits c ++ ws
 
-pub all-left : (me : ℕ) (is : List Item) → AllReadable is → (c : Control) → FineControl c → AllLeft c (allActed 8 c is) (rejectsIn (componentRows me 8 c is))
+pub all-left : (me : ℕ) (is : List Item) → AllReadable is → (c : Control) → FineControl c → AllLeaveWaiting c (allActed 8 c is) (rejectsIn (componentRows me 8 c is))
 unfolding allActed componentRows rejectsIn
 all-left me [] a c f = record { turn = refl; state = refl; service = refl; peer = refl; waiting = sym (append-nil (waits c)) }
 all-left me (i ∷ is) a c f =

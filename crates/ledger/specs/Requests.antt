@@ -91,7 +91,7 @@ uni-some x e z =
     (b .0)
 
 -- WHAT A REQUEST LEAVES AND WRITES
-pub record Done (T : Table) (L : Ledger) (d : ℕ) (r : Request) (y : Place) (m : List ℕ) : Type 0 where
+pub record Follows (T : Table) (L : Ledger) (d : ℕ) (r : Request) (y : Place) (m : List ℕ) : Type 0 where
   pub agrees : Agrees (withPlace T (placeOf d) y) (noted L d r)
   pub says : contentOf m ≡ saidOf (find (L .dialogues) d) r
   pub fits : length m ≤ spacesOf r .space
@@ -111,7 +111,7 @@ module _ (T : Table) (f : Fine T) (L : Ledger) (g : Agrees T L) (d : ℕ) (e : E
   fine = f .each p (holds .small)
 
   abbrev D : Request → Place → List ℕ → Type 0
-  D = Done T L d
+  D = Follows T L d
 
   said-is : (r : Request) → saidBy e r ≡ saidOf (find (L .dialogues) d) r
   said-is r = ap (λ (o : Option Entry). saidOf o r) (sym there)

@@ -25,7 +25,7 @@ use Rattle.kept.specs.Steps.{WellFormed, does-answers}
 use Rattle.kept.specs.Fresh.{none-held}
 use Rattle.ledger.specs.Ours.{ours-none}
 use Rattle.ledger.specs.Agrees.{Agrees, owned-found, agrees-begun}
-use Rattle.ledger.specs.Requests.{Done as Answered, does-done}
+use Rattle.ledger.specs.Requests.{Follows, does-done}
 use Rattle.ledger.specs.Received.{received-heard}
 
 -- A FRESH TABLE and an empty ledger
@@ -47,16 +47,16 @@ module _ (T : Table) (f : Fine T) (L : Ledger) (g : Agrees T L) where
     pub fits : length (o .message) ≤ spacesFor c .space
 
   -- where it is answered 0
-  abbrev Done : Call → Out → Type 0
-  Done c o = o .answer ≡ 0 → Goes c o
+  abbrev IfDone : Call → Out → Type 0
+  IfDone c o = o .answer ≡ 0 → Goes c o
 
-  is : (c : Call) {a b : Out} → a ≡ b → Done c b → Done c a
-  is c z h = subst (Done c) (sym z) h
+  is : (c : Call) {a b : Out} → a ≡ b → IfDone c b → IfDone c a
+  is c z h = subst (IfDone c) (sym z) h
 
-  refused : (c : Call) (n : ℕ) {o : Out} → o .answer ≡ suc n → Done c o
+  refused : (c : Call) (n : ℕ) {o : Out} → o .answer ≡ suc n → IfDone c o
   refused c n e a = absurd (omega (arith, e, a))
 
-  opened-goes : (service : ℕ) → service < 16 → Done (Open service) (opened T service)
+  opened-goes : (service : ℕ) → service < 16 → IfDone (Open service) (opened T service)
   unfolding opened joined
   opened-goes service s< =
       by-b {r = opened T service} _ _ _ refl
@@ -74,7 +74,7 @@ module _ (T : Table) (f : Fine T) (L : Ledger) (g : Agrees T L) where
       }))
       (λ may z. is (Open service) z (refused (Open service) 6 refl))
 
-  requested-goes : (service d : ℕ) (r : Request) → Formed r → Done (OnDialogue service d r) (requested T service d r)
+  requested-goes : (service d : ℕ) (r : Request) → Formed r → IfDone (OnDialogue service d r) (requested T service d r)
   unfolding requested stored request
   requested-goes service d r w =
       by-b {r = requested T service d r} _ _ _ refl
@@ -87,8 +87,8 @@ module _ (T : Table) (f : Fine T) (L : Ledger) (g : Agrees T L) where
       x : Place
       x = placeAt T (placeOf d)
 
-      go : (n : ℕ) → refusal x r ≡ n → (refusal x r ≡ 0 → Answered T L d r (does d x r .place) (does d x r .message))
-          → Done c (stored T (placeOf d) (unlessRefused n x (does d x r)))
+      go : (n : ℕ) → refusal x r ≡ n → (refusal x r ≡ 0 → Follows T L d r (does d x r .place) (does d x r .message))
+          → IfDone c (stored T (placeOf d) (unlessRefused n x (does d x r)))
       go (suc n) e k = refused c n refl
       go zero e k = λ _.
           record {
@@ -97,7 +97,7 @@ module _ (T : Table) (f : Fine T) (L : Ledger) (g : Agrees T L) where
             fits = k e .fits;
           }
 
-  received-goes : (service : ℕ) → service < 16 → (s : List ℕ) → WellFormed (Receive service s) → Done (Receive service s) (receivedIf T service s)
+  received-goes : (service : ℕ) → service < 16 → (s : List ℕ) → WellFormed (Receive service s) → IfDone (Receive service s) (receivedIf T service s)
   unfolding receivedIf
   received-goes service s< s w =
       by-eq {r = receivedIf T service s} _ _ _ _ refl (λ a z. is c z (refused c 3 refl))
