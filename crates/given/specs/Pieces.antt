@@ -8,9 +8,9 @@ use lib.Dec.{eqb}
 use lib.ListN.{length}
 use borrow.Author.Tests.{eqb-true}
 use Rattle.laws.specs.If.{ifLt, ifB, lt, ge, eq, yes, no, by-eq}
-use Rattle.paper.specs.Dialogues.{endsAt, isElement, isCode, isParameter, isResult}
+use Rattle.paper.specs.Dialogues.{isCode, isParameter, isResult}
 use Rattle.paper.specs.declared.Reading.{Reading}
-use Rattle.paper.specs.Elements.{element}
+use Rattle.paper.specs.Elements.{element, endsAt, isElement}
 use Rattle.writing.specs.Lengths.{elementSize, resultSize, length-small, none-size, both-size}
 
 -- what is over 240 octets where n wait

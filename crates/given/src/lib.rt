@@ -3,7 +3,8 @@ use paper::Reading;
 ghost use mathlib.Core.Path.{_≡_};
 ghost use Prim.Native.Nat.{_+_, _≤_};
 ghost use lib.ListN.{length};
-ghost use Rattle.paper.specs.Dialogues.{isElement, isCode, isParameter, isResult, isPortion};
+ghost use Rattle.paper.specs.Elements.{isElement};
+ghost use Rattle.paper.specs.Dialogues.{isCode, isParameter, isResult, isPortion};
 ghost use Rattle.given.specs.Pieces.{piecesRefusal, bothRefusal};
 
 // One well-formed element, with so many depths to go.

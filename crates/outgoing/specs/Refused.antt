@@ -13,9 +13,9 @@ use Rattle.paper.specs.declared.Reading.{Reading}
 use Rattle.paper.specs.declared.Reading.the-variants.{Ends, Fault}
 use Rattle.paper.specs.declared.Component.{Component}
 use Rattle.paper.specs.declared.Control.{Control}
-use Rattle.paper.specs.Elements.{element}
+use Rattle.paper.specs.Elements.{element, endsAt, isElement}
 use Rattle.paper.specs.Components.{Item, componentAt, nextStart, goOn, items, components}
-use Rattle.paper.specs.Dialogues.{Place, endsAt, isElement, isPortion, ofClass4, uniRefusal}
+use Rattle.paper.specs.Dialogues.{Place, isPortion, ofClass4, uniRefusal}
 
 -- ---- components one after another: the test of what is left answers for the whole
 pub record Rest (f : Item → Bool) (w : List ℕ) (at : ℕ) : Type 0 where

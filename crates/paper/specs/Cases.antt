@@ -39,7 +39,7 @@ turnedOpen = computed turned (Open 3)
 
 pub turnedBegun : Out
 unfolding computed turnedOpen
-turnedBegun = computed (turnedOpen .table) (OnDialogue 3 0x010203 Begin)
+turnedBegun = computed (turnedOpen .table) (OnDialogue 3 0x010203 (Begin [] []))
 
 -- a Continue from the peer's 07 to these four octets
 abbrev pub continueTo : ℕ → ℕ → ℕ → ℕ → List ℕ
@@ -52,7 +52,7 @@ found = computed (turnedBegun .table) (Receive 3 (continueTo 0x00 0x01 0x02 0x03
 -- our Continue names both ends
 pub answered : Out
 unfolding computed found
-answered = computed (found .table) (OnDialogue 3 0x010203 Continue)
+answered = computed (found .table) (OnDialogue 3 0x010203 (Continue [] []))
 
 -- the turn's octets low first name nobody
 pub reversed : Out
@@ -78,7 +78,7 @@ highest = computed (tableOf (replicate 127 taken ++ (emptyPlace 0x010203 ∷ [])
 
 pub highestBegun : Out
 unfolding computed highest
-highestBegun = computed (highest .table) (OnDialogue 3 0x7F010203 Begin)
+highestBegun = computed (highest .table) (OnDialogue 3 0x7F010203 (Begin [] []))
 
 -- none is left
 pub full : Out
@@ -100,7 +100,7 @@ once = computed (cycles 1 0 empty) (Open 3)
 
 pub onceBegun : Out
 unfolding computed once
-onceBegun = computed (once .table) (OnDialogue 3 1 Begin)
+onceBegun = computed (once .table) (OnDialogue 3 1 (Begin [] []))
 
 -- the first turn that needs its second octet
 pub often : Out
@@ -109,7 +109,7 @@ often = computed (cycles 256 0 empty) (Open 3)
 
 pub oftenBegun : Out
 unfolding computed often
-oftenBegun = computed (often .table) (OnDialogue 3 256 Begin)
+oftenBegun = computed (often .table) (OnDialogue 3 256 (Begin [] []))
 
 -- the last turn: freed, it is 0 again
 pub lastTurn : Out
@@ -127,7 +127,7 @@ wrappedOpen = computed (wrapped .table) (Open 3)
 -- the ID before the wrap names nobody
 pub wrappedLate : Out
 unfolding computed wrappedOpen
-wrappedLate = computed (wrappedOpen .table) (OnDialogue 3 0x00FFFFFF Begin)
+wrappedLate = computed (wrappedOpen .table) (OnDialogue 3 0x00FFFFFF (Begin [] []))
 
 abbrev pub turnAt : Out → ℕ → ℕ
 turnAt o p = placeAt (o .table) p .control .turn
@@ -163,7 +163,7 @@ pub ours : Out
 unfolding computed turnedOpen
 ours =
     computed (invoking (invoking (invoking (invoking (turnedOpen .table) 0x80 1 .table) 0x7F 1 .table) 5 2 .table) 6 4 .table)
-    (OnDialogue 3 0x010203 Begin)
+    (OnDialogue 3 0x010203 (Begin [] []))
 
 -- 3 CONTINUE with eight: A7 of our -128; an invoke 127 linked to it; its A2; A3 of our 5; their reject of our 127; one that names
 -- none; an invoke 6 linked to 127, Idle by now; octets without a frame

@@ -11,6 +11,7 @@ use Rattle.paper.specs.Elements.{frameAt}
 use Rattle.paper.specs.Components.{Item, codeEnd, invokeTag, errorTag, rejectTag, noID}
 use Rattle.paper.specs.Messages.{messageOf, isSound}
 use Rattle.paper.specs.Writing.{Written}
+use Rattle.paper.specs.Portions.{Spoken, spokenIn}
 use Rattle.paper.specs.Calls.{octetsAt, itemsOf}
 use Rattle.paper.specs.Rules.{isSoundItem}
 
@@ -42,12 +43,14 @@ partsOf s i =
     (Written.Result (i .part .tag) (i .part .id)
     (ifEq (i .part .parstop) 0 [] (codeAt s (resultFrame s i .to) (resultFrame s i .from))) (parameterIn s i))))
 
--- a message: its type; the octets of its IDs and of its dialogue portion, none where it has none; its cause, 65,535 for none; its components
+-- a message: its type; the octets of its IDs and of its dialogue portion, none where it has none; what the portion says; its cause,
+-- 65,535 for none; its components
 pub record Content : Type 0 where
   pub tag : ℕ
   pub origin : List ℕ
   pub destination : List ℕ
   pub portion : List ℕ
+  pub spoken : Spoken
   pub cause : ℕ
   pub components : List Written
 
@@ -62,6 +65,7 @@ contentBy s m = record {
   origin = octetsAt s (m .origin);
   destination = octetsAt s (m .destination);
   portion = octetsAt s (m .portion);
+  spoken = spokenIn (octetsAt s (m .portion));
   cause = m .cause;
   components = map (partsOf s) (itemsOf s m);
 }

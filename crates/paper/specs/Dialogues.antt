@@ -7,17 +7,16 @@ use lib.ListN.{length, getD, take, replicate}
 use lib.Dec.{eqb, leb}
 use Rattle.laws.specs.If.{ifLt, ifEq, ifB}
 use Rattle.laws.specs.Lists.{every}
-use Rattle.paper.specs.declared.Reading.{Reading}
-use Rattle.paper.specs.declared.Reading.the-variants.{Ends, Fault}
 use Rattle.paper.specs.declared.Reject.{Reject}
 use Rattle.paper.specs.declared.Control.{Control}
 use Rattle.paper.specs.declared.Row.{Row}
 use Rattle.paper.specs.Sizes.{mostInvocations, mostWaiting, mostRejects, depths, nextTurn, idOctets}
-use Rattle.paper.specs.Elements.{element}
+use Rattle.paper.specs.Elements.{isElement}
 use Rattle.paper.specs.Problems.{senderOfProblem, byUser, kindOf, noProblem}
 use Rattle.paper.specs.Components.{Item, components, codeEnd, invokeTag}
 use Rattle.paper.specs.Messages.{noRun}
 use Rattle.paper.specs.Writing.{invokeOctets, resultOctets, errorOctets, rejectOctets, beginOctets, continueOctets, endOctets, uniOctets, userAbortOctets}
+use Rattle.paper.specs.Portions.{Form, aarq, aare, abrt, audt, portionBy}
 use Rattle.paper.specs.Invocations.{idle, sent, wait, rejecting, noInvocation, idleSlot, invocationOf, stateOf, toState, toIdle, passed, allTransmitted, mayReject}
 use Rattle.paper.specs.Rows.{dialogueRow, cancelRow, rowAbort}
 
@@ -117,14 +116,6 @@ done x rows message = record { answer = 0; place = x; rows = rows; message = mes
 
 -- OCTETS GIVEN (answer 11): "octets given for operation, error, parameter or dialogue portion not one well-formed element of
 -- its kind, or reaching depth 17 in what it becomes part of"
-abbrev pub endsAt : ℕ → Reading → Bool
-endsAt n (Ends e) = eqb e n
-endsAt n (Fault f) = false
-
--- one well-formed element with d depths to go
-unfoldable pub isElement : ℕ → List ℕ → Bool
-isElement d l = endsAt (length l) (element l d (length l) 0)
-
 -- an operation or an error
 unfoldable pub isCode : List ℕ → Bool
 isCode l = ifEq (length l) 0 false (eqb (codeEnd l (length l) 0) (length l))
@@ -141,9 +132,35 @@ isResult op par = ifEq (length op) 0 (eqb (length par) 0) (ifB (isCode op) (isEl
 unfoldable pub isPortion : List ℕ → Bool
 isPortion l = ifEq (length l) 0 true (ifEq (getD l 0 0) 0x6B (isElement depths l) false)
 
+-- 02 a: "a context name (one 06 element)", of at least 1 octet, or none
+unfoldable pub isName : List ℕ → Bool
+isName l = ifEq (length l) 0 true (ifEq (getD l 0 0) 6 (isCode l) false)
+
+-- "user information (one BE element)", depth 5 in its portion
+unfoldable pub isBlock : List ℕ → Bool
+isBlock l = ifEq (getD l 0 0) 0xBE (isElement 12 l) false
+
+unfoldable pub isInformation : List ℕ → Bool
+isInformation l = ifEq (length l) 0 true (isBlock l)
+
 -- WAITING COMPONENTS. Answer 12: "waiting components .. over 240 octets"
 unfoldable pub overfull : Place → List ℕ → ℕ
 overfull x l = ifLt mostWaiting (length (x .waiting) + length l) 12 0
+
+-- the first of two numbers that isn't 0
+unfoldable pub first : ℕ → ℕ → ℕ
+first n m = ifEq n 0 m n
+
+-- NAME AND INFORMATION given with a sending (02 a): "11 for them too; 14, either given with continue or end in Active, or user
+-- information without a name .., after 12". "The 240 octets from here on count the portion too."
+unfoldable pub unplaced : ℕ → List ℕ → List ℕ → ℕ
+unplaced state name info = ifEq (length name) 0 (ifEq (length info) 0 0 14) (ifEq state dialogueActive 14 0)
+
+unfoldable pub portionRefusal : Place → Form → List ℕ → List ℕ → ℕ
+portionRefusal x f name info =
+    ifB (isName name)
+    (ifB (isInformation info) (first (overfull x (portionBy f name info)) (unplaced (x .control .state) name info)) 11)
+    11
 
 abbrev pub passing : Place → Control → List ℕ → Done
 passing x c l = done (record { control = c; waiting = x .waiting ++ l }) [] []
@@ -195,11 +212,12 @@ allRejects (r ∷ rs) = rejectOctets (r .id) (r .problem) ++ allRejects rs
 unfoldable pub waitingRejects : Control → List ℕ
 waitingRejects c = allRejects (take (c .count) (c .rejects))
 
-unfoldable pub rejectsFit : Place → Bool
-rejectsFit x = leb (length (x .waiting) + length (waitingRejects (x .control))) mostWaiting
+-- 02 a: n octets of the 240 are the dialogue portion's
+unfoldable pub rejectsFit : Place → ℕ → Bool
+rejectsFit x n = leb (n + (length (x .waiting) + length (waitingRejects (x .control)))) mostWaiting
 
-unfoldable pub sentComponents : Place → List ℕ
-sentComponents x = ifB (rejectsFit x) (x .waiting ++ waitingRejects (x .control)) (x .waiting)
+unfoldable pub sentComponents : Place → Bool → List ℕ
+sentComponents x fits = ifB fits (x .waiting ++ waitingRejects (x .control)) (x .waiting)
 
 abbrev pub withoutRejects : Control → Control
 withoutRejects c = record {
@@ -214,9 +232,9 @@ withoutRejects c = record {
 }
 
 -- what a sending leaves
-unfoldable pub afterSending : Place → ℕ → Place
-afterSending x state = record {
-  control = ifB (rejectsFit x) (withoutRejects (allTransmitted (withState (x .control) state))) (allTransmitted (withState (x .control) state));
+unfoldable pub afterSending : Place → Bool → ℕ → Place
+afterSending x fits state = record {
+  control = ifB fits (withoutRejects (allTransmitted (withState (x .control) state))) (allTransmitted (withState (x .control) state));
   waiting = [];
 }
 
@@ -244,23 +262,31 @@ uniRefusal x =
     6
 
 -- "Prearranged end and user abort (both free): any; only abort takes a dialogue portion, .. and writes a message only in
--- Received and Active."
+-- Received and Active." 02 a: "with abort only user information (ABRT: user)", a BE element in place of the whole 6B
+unfoldable pub isAbort : List ℕ → Bool
+isAbort given = ifEq (getD given 0 0) 0xBE (isBlock given) (isPortion given)
+
+unfoldable pub abortPortion : List ℕ → List ℕ
+abortPortion given = ifEq (getD given 0 0) 0xBE (portionBy abrt [] given) given
+
 unfoldable pub abortRefusal : List ℕ → ℕ
-abortRefusal portion = ifB (isPortion portion) (ifLt mostWaiting (length portion) 12 0) 11
+abortRefusal given = ifB (isAbort given) (ifLt mostWaiting (length (abortPortion given)) 12 0) 11
 
 unfoldable pub abortMessage : Place → List ℕ → List ℕ
-abortMessage x portion = ifEq (needsPeer x) 0 (userAbortOctets (peerOf (x .control)) portion) []
+abortMessage x given = ifEq (needsPeer x) 0 (userAbortOctets (peerOf (x .control)) (abortPortion given)) []
 
--- THE REQUESTS AND TIMER EVENTS on a dialogue; IDs are octets, a linked ID is 256 where there is none, tag is A2 or A7
+-- THE REQUESTS AND TIMER EVENTS on a dialogue; IDs are octets, a linked ID is 256 where there is none, tag is A2 or A7; sendings
+-- take a context name and user information, an abort a dialogue portion or user information, no octets for none
 pub data Request : Type 0 where
   Invoke : ℕ → ℕ → ℕ → List ℕ → List ℕ → Request
   Result : ℕ → ℕ → List ℕ → List ℕ → Request
   Error : ℕ → List ℕ → List ℕ → Request
   UserReject : ℕ → ℕ → Request
   Cancel : ℕ → Request
-  Begin Continue End Prearranged : Request
+  Begin Continue End : List ℕ → List ℕ → Request
+  Prearranged : Request
   Abort : List ℕ → Request
-  Unidirectional : Request
+  Unidirectional : List ℕ → List ℕ → Request
   Timeout RejectTimeout : ℕ → Request
   NoReaction : Request
 
@@ -271,15 +297,34 @@ refusal x (Result tag id op par) = resultRefusal x tag id op par
 refusal x (Error id err par) = errorRefusal x id err par
 refusal x (UserReject id p) = rejectRefusal x id p
 refusal x (Cancel id) = needs x id sent
-refusal x Begin = needsOpen x
-refusal x Continue = needsPeer x
-refusal x End = needsPeer x
+refusal x (Begin name info) = first (needsOpen x) (portionRefusal x aarq name info)
+refusal x (Continue name info) = first (needsPeer x) (portionRefusal x aare name info)
+refusal x (End name info) = first (needsPeer x) (portionRefusal x aare name info)
 refusal x Prearranged = 0
-refusal x (Abort portion) = abortRefusal portion
-refusal x Unidirectional = uniRefusal x
+refusal x (Abort given) = abortRefusal given
+refusal x (Unidirectional name info) = first (uniRefusal x) (portionRefusal x audt name info)
 refusal x (Timeout id) = needs x id sent
 refusal x (RejectTimeout id) = needs x id wait
 refusal x NoReaction = needsSent x
+
+-- a message with its portion and what is sent
+abbrev pub fitsWith : Place → List ℕ → Bool
+fitsWith x portion = rejectsFit x (length portion)
+
+abbrev pub begins : ℕ → Place → List ℕ → Done
+begins me x portion =
+    done (afterSending x (fitsWith x portion) dialogueSent) [] (beginOctets (idOctets me) portion (sentComponents x (fitsWith x portion)))
+
+abbrev pub continues : ℕ → Place → List ℕ → Done
+continues me x portion =
+    done (afterSending x (fitsWith x portion) dialogueActive) []
+    (continueOctets (idOctets me) (peerOf (x .control)) portion (sentComponents x (fitsWith x portion)))
+
+abbrev pub ends : Place → List ℕ → Done
+ends x portion = done (freed x) [] (endOctets (peerOf (x .control)) portion (sentComponents x (fitsWith x portion)))
+
+abbrev pub unis : Place → List ℕ → Done
+unis x portion = done (freed x) [] (uniOctets portion (sentComponents x (fitsWith x portion)))
 
 -- what it does where it isn't refused. "An end drops what it didn't send."
 unfoldable pub does : ℕ → Place → Request → Done
@@ -288,13 +333,12 @@ does me x (Result tag id op par) = passing x (x .control) (resultOctets tag id o
 does me x (Error id err par) = passing x (x .control) (errorOctets id err par)
 does me x (UserReject id p) = passing x (rejectedBy (x .control) id p) (rejectOctets id p)
 does me x (Cancel id) = done (withControl x (toIdle (x .control) id)) [] []
-does me x Begin = done (afterSending x dialogueSent) [] (beginOctets (idOctets me) (sentComponents x))
-does me x Continue =
-    done (afterSending x dialogueActive) [] (continueOctets (idOctets me) (peerOf (x .control)) (sentComponents x))
-does me x End = done (freed x) [] (endOctets (peerOf (x .control)) (sentComponents x))
+does me x (Begin name info) = begins me x (portionBy aarq name info)
+does me x (Continue name info) = continues me x (portionBy aare name info)
+does me x (End name info) = ends x (portionBy aare name info)
 does me x Prearranged = done (freed x) [] []
-does me x (Abort portion) = done (freed x) [] (abortMessage x portion)
-does me x Unidirectional = done (freed x) [] (uniOctets (sentComponents x))
+does me x (Abort given) = done (freed x) [] (abortMessage x given)
+does me x (Unidirectional name info) = unis x (portionBy audt name info)
 does me x (Timeout id) = done (withControl x (toIdle (x .control) id)) (timeoutRows me x id) []
 does me x (RejectTimeout id) = done (withControl x (toIdle (x .control) id)) [] []
 does me x NoReaction = done (freed x) (dialogueRow rowAbort me noProblem noRun 0 ∷ []) []

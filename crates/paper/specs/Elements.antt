@@ -2,7 +2,7 @@
 use mathlib.Core.List.{List}
 use mathlib.Core.Bool.{Bool, true, false}
 use Prim.Native.Nat.{ℕ, zero, suc, _+_, _*_, _-_, _/_, _%_}
-use lib.ListN.{getD}
+use lib.ListN.{length, getD}
 use lib.Dec.{eqb}
 use Rattle.laws.specs.If.{ifLt, ifEq}
 use Rattle.paper.specs.declared.Length.{Length}
@@ -101,6 +101,14 @@ byHead (Opens b) lim at k = k true lim b
 unfoldable pub element : List ℕ → ℕ → ℕ → ℕ → Reading
 element s zero lim at = Fault at
 element s (suc d) lim at = byHead (headAt s lim at) lim at (λ o e b. contents (element s d) s o e at (suc e) b)
+
+-- octets that are ONE ELEMENT, with d depths to go, and nothing more
+abbrev pub endsAt : ℕ → Reading → Bool
+endsAt n (Ends e) = eqb e n
+endsAt n (Fault f) = false
+
+unfoldable pub isElement : ℕ → List ℕ → Bool
+isElement d l = endsAt (length l) (element l d (length l) 0)
 
 -- THE FRAME of an element: a definite one's is given by its tag and length; "an indefinite 6C or component has its end
 -- found when well-formed elements lead up to 00 00". A primitive holds no pieces. stop 0: "no frame (tag or length wrong

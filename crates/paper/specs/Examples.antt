@@ -27,7 +27,7 @@ invoked = computed (p1 .table) (OnDialogue 3 0 (Invoke 5 256 1 (0x02 ∷ 0x01 �
 
 pub p2 : Out
 unfolding computed invoked
-p2 = computed (invoked .table) (OnDialogue 3 0 Begin)
+p2 = computed (invoked .table) (OnDialogue 3 0 (Begin [] []))
 
 pub p3 : Out
 unfolding computed p2
@@ -78,7 +78,7 @@ again = computed (computed (p1 .table) (OnDialogue 3 0 Prearranged) .table) (Ope
 
 pub late : Out
 unfolding computed again
-late = computed (again .table) (OnDialogue 3 0 Begin)
+late = computed (again .table) (OnDialogue 3 0 (Begin [] []))
 
 -- Another service's unused guarantee is kept: guarantees 2 and 3, limits 128 and 3, service 0 alone gets 125
 abbrev pub opens : ℕ → Table → Table

@@ -16,9 +16,10 @@ use Rattle.paper.specs.Problems.{noProblem}
 use Rattle.paper.specs.Components.{Item, noID}
 use Rattle.paper.specs.Messages.{messageOf, isSound, uniTag, beginTag, endTag, continueTag, abortTag}
 use Rattle.paper.specs.Writing.{Written, joined}
+use Rattle.paper.specs.Portions.{Form, aarq, aare, abrt, audt, portionBy, Spoken, spokenIn, spokenBy}
 use Rattle.paper.specs.Rows.{rowBegin, rowContinue, rowRejected}
 use Rattle.paper.specs.Shares.{gives}
-use Rattle.paper.specs.Dialogues.{Request, dialogueOpen, dialogueSent, dialogueReceived, dialogueActive}
+use Rattle.paper.specs.Dialogues.{Request, abortPortion, dialogueOpen, dialogueSent, dialogueReceived, dialogueActive}
 use Rattle.paper.specs.Dialogues.Request.{Invoke, Result, Error, UserReject, Cancel, Begin, Continue, End, Prearranged, Abort, Unidirectional, Timeout, RejectTimeout, NoReaction}
 use Rattle.paper.specs.Calls.{Call, octetsAt, destinationNumber, itemsOf}
 use Rattle.paper.specs.Calls.Call.{Open, OnDialogue, Receive}
@@ -98,24 +99,25 @@ idles id e = record {
 abbrev pub unmoved : List Invocation → List Invocation
 unmoved l = l
 
--- SENT: "waiting components in order, then all waiting rejects if the sum is at most 240, else they wait"
-unfoldable pub fit : Entry → Bool
-fit e = leb (length (joined (e .passed)) + length (joined (e .rejects))) mostWaiting
+-- SENT: "waiting components in order, then all waiting rejects if the sum is at most 240, else they wait"; n octets of the 240 are the
+-- dialogue portion's (02 a)
+unfoldable pub fit : Entry → ℕ → Bool
+fit e n = leb (n + (length (joined (e .passed)) + length (joined (e .rejects)))) mostWaiting
 
-unfoldable pub goes : Entry → List Written
-goes e = ifB (fit e) (e .passed ++ e .rejects) (e .passed)
+unfoldable pub goes : Entry → Bool → List Written
+goes e fits = ifB fits (e .passed ++ e .rejects) (e .passed)
 
-unfoldable pub stays : Entry → List Written
-stays e = ifB (fit e) [] (e .rejects)
+unfoldable pub stays : Entry → Bool → List Written
+stays e fits = ifB fits [] (e .rejects)
 
-abbrev pub sends : ℕ → Entry → Entry
-sends state e = record {
+abbrev pub sends : ℕ → List ℕ → Entry → Entry
+sends state portion e = record {
   id = e .id;
   service = e .service;
   state = state;
   peer = e .peer;
   passed = [];
-  rejects = stays e;
+  rejects = stays e (fit e (length portion));
   invocations = allSent (e .invocations);
 }
 
@@ -126,12 +128,12 @@ noted L d (Result tag id op par) = goesOn L d (passes (Written.Result tag id op 
 noted L d (Error id err par) = goesOn L d (passes (Written.Error id err par) unmoved)
 noted L d (UserReject id p) = goesOn L d (passes (Written.Reject id p) (λ l. userRejects l id p))
 noted L d (Cancel id) = goesOn L d (idles id)
-noted L d Begin = goesOn L d (sends dialogueSent)
-noted L d Continue = goesOn L d (sends dialogueActive)
-noted L d End = ends L d
+noted L d (Begin name info) = goesOn L d (sends dialogueSent (portionBy aarq name info))
+noted L d (Continue name info) = goesOn L d (sends dialogueActive (portionBy aare name info))
+noted L d (End name info) = ends L d
 noted L d Prearranged = ends L d
-noted L d (Abort portion) = ends L d
-noted L d Unidirectional = ends L d
+noted L d (Abort given) = ends L d
+noted L d (Unidirectional name info) = ends L d
 noted L d (Timeout id) = goesOn L d (idles id)
 noted L d (RejectTimeout id) = goesOn L d (idles id)
 noted L d NoReaction = ends L d
@@ -197,23 +199,36 @@ hadPlace p d = ifEq (placeOf d) p 1 0
 unfoldable pub endedIn : ℕ → List ℕ → ℕ
 endedIn p l = sumBy (hadPlace p) l
 
--- WHAT THE NEXT CALL'S MESSAGE HOLDS. A sending: what was passed, then the rejects
-abbrev pub sending : ℕ → List ℕ → List ℕ → Entry → Wire
-sending tag origin destination e =
-    Wire.Holds (record { tag = tag; origin = origin; destination = destination; portion = []; cause = noProblem; components = goes e })
+-- WHAT THE NEXT CALL'S MESSAGE HOLDS. A sending: the name and information as a PDU of that form says them, what was passed, then the rejects
+abbrev pub sending : ℕ → List ℕ → List ℕ → Form → List ℕ → List ℕ → Entry → Wire
+sending tag origin destination f name info e =
+    Wire.Holds
+    (record {
+      tag = tag;
+      origin = origin;
+      destination = destination;
+      portion = portionBy f name info;
+      spoken = spokenBy f name info;
+      cause = noProblem;
+      components = goes e (fit e (length (portionBy f name info)));
+    })
 
 -- an Abort, with the user's dialogue portion or a cause
-abbrev pub aborting : List ℕ → List ℕ → ℕ → Wire
-aborting destination portion cause =
-    Wire.Holds (record { tag = abortTag; origin = []; destination = destination; portion = portion; cause = cause; components = [] })
+abbrev pub aborting : List ℕ → List ℕ → Spoken → ℕ → Wire
+aborting destination portion spoken cause =
+    Wire.Holds (record { tag = abortTag; origin = []; destination = destination; portion = portion; spoken = spoken; cause = cause; components = [] })
+
+-- "with abort only user information (ABRT: user)"; a whole 6B says what it says
+unfoldable pub abortSpoken : List ℕ → Spoken
+abortSpoken given = ifEq (getD given 0 0) 0xBE (spokenBy abrt [] given) (spokenIn given)
 
 -- of a request: our ID and the partner's; an abort "writes a message only in Received and Active"
 abbrev pub saidBy : Entry → Request → Wire
-saidBy e Begin = sending beginTag (idOctets (e .id)) [] e
-saidBy e Continue = sending continueTag (idOctets (e .id)) (e .peer) e
-saidBy e End = sending endTag [] (e .peer) e
-saidBy e Unidirectional = sending uniTag [] [] e
-saidBy e (Abort portion) = ifB (hasPeer (e .state)) (aborting (e .peer) portion noProblem) Wire.Nothing
+saidBy e (Begin name info) = sending beginTag (idOctets (e .id)) [] aarq name info e
+saidBy e (Continue name info) = sending continueTag (idOctets (e .id)) (e .peer) aare name info e
+saidBy e (End name info) = sending endTag [] (e .peer) aare name info e
+saidBy e (Unidirectional name info) = sending uniTag [] [] audt name info e
+saidBy e (Abort given) = ifB (hasPeer (e .state)) (aborting (e .peer) (abortPortion given) (abortSpoken given) noProblem) Wire.Nothing
 saidBy e (Invoke id linked class op par) = Wire.Nothing
 saidBy e (Result tag id op par) = Wire.Nothing
 saidBy e (Error id err par) = Wire.Nothing
@@ -263,7 +278,7 @@ causeOf L service s m =
 unfoldable pub saidFor : Ledger → ℕ → List ℕ → Message → Wire
 saidFor L service s m =
     ifLt (causeOf L service s m) 5
-    (ifEq (m .origin .length) 0 Wire.Nothing (aborting (octetsAt s (m .origin)) [] (causeOf L service s m)))
+    (ifEq (m .origin .length) 0 Wire.Nothing (aborting (octetsAt s (m .origin)) [] Spoken.Silent (causeOf L service s m)))
     Wire.Nothing
 
 abbrev pub said : Ledger → Call → Wire

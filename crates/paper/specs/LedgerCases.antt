@@ -6,6 +6,7 @@ use Prim.Native.Nat.{ℕ}
 use lib.ListN.{replicate}
 use Rattle.paper.specs.Components.{noID}
 use Rattle.paper.specs.Writing.{Written}
+use Rattle.paper.specs.Portions.{Spoken}
 use Rattle.paper.specs.Invocations.{wait}
 use Rattle.paper.specs.Dialogues.{dialogueReceived, dialogueActive}
 use Rattle.paper.specs.Dialogues.Request.{Invoke, Result, Begin, Continue, Cancel, Prearranged}
@@ -60,7 +61,7 @@ calls =
     Open 3
     ∷ OnDialogue 3 0 (Invoke 5 noID 1 (0x02 ∷ 0x01 ∷ 0x3B ∷ []) [])
     ∷ OnDialogue 3 0 (Invoke 6 noID 1 (0x02 ∷ 0x01 ∷ 0x3C ∷ []) [])
-    ∷ OnDialogue 3 0 Begin
+    ∷ OnDialogue 3 0 (Begin [] [])
     ∷ Receive 3 answer
     ∷ Receive 3 answer
     ∷ Receive 3 other
@@ -91,7 +92,7 @@ pub ledgerCases :
     × (booked (0x62 ∷ 0x04 ∷ 0x48 ∷ 0x01 ∷ 0x07 ∷ []) ≡ Wire.Garbled)
     × (booked faulty ≡ Wire.Garbled)
     × (booked aborted
-    ≡ Wire.Holds (record { tag = 0x67; origin = []; destination = 0x07 ∷ []; portion = []; cause = 2; components = [] }))
+    ≡ Wire.Holds (record { tag = 0x67; origin = []; destination = 0x07 ∷ []; portion = []; spoken = Spoken.Silent; cause = 2; components = [] }))
     × (booked parts
     ≡ Wire.Holds
     (record {
@@ -99,6 +100,7 @@ pub ledgerCases :
       origin = 0x07 ∷ [];
       destination = 0x00 ∷ 0x01 ∷ 0x02 ∷ 0x03 ∷ [];
       portion = 0x6B ∷ 0x02 ∷ 0x28 ∷ 0x00 ∷ [];
+      spoken = Spoken.Other;
       cause = 65535;
       components =
           Written.Invoke 0x80 5 (0x02 ∷ 0x01 ∷ 0x3C ∷ []) (0x04 ∷ 0x02 ∷ 0xAA ∷ 0xBB ∷ [])
@@ -119,13 +121,14 @@ pub ledgerCases :
       rejects = Written.Reject 5 512 ∷ [];
       invocations = record { id = 5; class = 1; state = wait; shown = 0 } ∷ [];
     }))
-    × (heard (talked .ledger) (OnDialogue 3 0 Continue)
+    × (heard (talked .ledger) (OnDialogue 3 0 (Continue [] []))
     ≡ Wire.Holds
     (record {
       tag = 0x65;
       origin = 0x00 ∷ 0x00 ∷ 0x00 ∷ 0x00 ∷ [];
       destination = 0x07 ∷ [];
       portion = [];
+      spoken = Spoken.Silent;
       cause = 65535;
       components = Written.Result 0xA2 9 [] [] ∷ Written.Reject 5 512 ∷ [];
     }))
@@ -143,6 +146,6 @@ pub ledgerCases :
     × (heard (asked .ledger) (Receive 3 other) ≡ Wire.Nothing)
     × (over .ledger .ended ≡ 0 ∷ [])
     × (heard (over .ledger) (Receive 3 other)
-    ≡ Wire.Holds (record { tag = 0x67; origin = []; destination = 0x08 ∷ []; portion = []; cause = 1; components = [] }))
+    ≡ Wire.Holds (record { tag = 0x67; origin = []; destination = 0x08 ∷ []; portion = []; spoken = Spoken.Silent; cause = 1; components = [] }))
 unfolding booked looked heard talked asked over
 ledgerCases = (refl, refl, refl, refl, refl, refl, refl, refl, refl, refl, refl)

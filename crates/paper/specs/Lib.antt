@@ -4,6 +4,7 @@ pub mod Problems
 pub mod Components
 pub mod Messages
 pub mod Writing
+pub mod Portions
 pub mod Invocations
 pub mod Rows
 pub mod Shares

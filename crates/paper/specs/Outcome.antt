@@ -6,7 +6,8 @@ use lib.ListN.{length, getD}
 use lib.Seq.{sets}
 use Rattle.laws.specs.If.{ifLt, ifEq, ifB}
 use Rattle.paper.specs.Sizes.{placesInAll, services, leastRows, leastSpace}
-use Rattle.paper.specs.Rows.{rowsOctets}
+use Rattle.paper.specs.Portions.{portionRow, portionAt}
+use Rattle.paper.specs.Rows.{rowOctets, rowsOctets}
 use Rattle.paper.specs.Shares.{sharesFit}
 use Rattle.paper.specs.Dialogues.{Request}
 use Rattle.paper.specs.Dialogues.Request.{Invoke, Result, Error, UserReject, Cancel, Begin, Continue, End, Prearranged, Abort, Unidirectional, Timeout, RejectTimeout, NoReaction}
@@ -41,12 +42,12 @@ spacesOf (Result tag id op par) = noSpace
 spacesOf (Error id err par) = noSpace
 spacesOf (UserReject id p) = noSpace
 spacesOf (Cancel id) = noSpace
-spacesOf Begin = messageSpace
-spacesOf Continue = messageSpace
-spacesOf End = messageSpace
+spacesOf (Begin name info) = messageSpace
+spacesOf (Continue name info) = messageSpace
+spacesOf (End name info) = messageSpace
 spacesOf Prearranged = noSpace
-spacesOf (Abort portion) = messageSpace
-spacesOf Unidirectional = messageSpace
+spacesOf (Abort given) = messageSpace
+spacesOf (Unidirectional name info) = messageSpace
 spacesOf (Timeout id) = rowSpace
 spacesOf (RejectTimeout id) = noSpace
 spacesOf NoReaction = rowSpace
@@ -104,6 +105,18 @@ unfoldable pub freshOutcome : List ℕ → List ℕ → List ℕ → Outcome
 freshOutcome t g l =
     ifEq (freshAnswer t g l) 0 (refusedBy 0 (record { table = encode (freshTable g l); rows = []; space = [] }))
     (refusedBy (freshAnswer t g l) (record { table = t; rows = []; space = [] }))
+
+-- A PORTION READ (02 a), at a run of a message: "writes one row of eight numbers", and takes no table
+unfoldable pub portionOutcome : List ℕ → List ℕ → ℕ → ℕ → Outcome
+portionOutcome rows s start len =
+    ifLt (length rows) leastRows (refusedBy 1 (record { table = []; rows = rows; space = [] }))
+    (record {
+      answer = 0;
+      rows = 1;
+      length = 0;
+      dialogue = 0;
+      lent = record { table = []; rows = sets rows 0 (rowOctets (portionRow (portionAt s start len))); space = [] };
+    })
 
 -- THE CONTRACT OF EVERY CALL: the reply r and what was lent, afterwards
 pub record Gives (o : Outcome) (answer rows length dialogue : ℕ) (lent : Lent) : Type 0 where

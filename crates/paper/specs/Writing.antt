@@ -62,18 +62,18 @@ joined (w ∷ ws) = octetsOf w ++ joined ws
 unfoldable pub componentsOctets : List ℕ → List ℕ
 componentsOctets cs = ifEq (length cs) 0 [] (tlv 0x6C cs)
 
--- the messages; IDs are given as their octets
-unfoldable pub beginOctets : List ℕ → List ℕ → List ℕ
-beginOctets own cs = tlv beginTag (tlv 0x48 own ++ componentsOctets cs)
+-- the messages; IDs are given as their octets, a dialogue portion too: "then 6B dialogue portion, optional"
+unfoldable pub beginOctets : List ℕ → List ℕ → List ℕ → List ℕ
+beginOctets own portion cs = tlv beginTag (tlv 0x48 own ++ (portion ++ componentsOctets cs))
 
-unfoldable pub continueOctets : List ℕ → List ℕ → List ℕ → List ℕ
-continueOctets own peer cs = tlv continueTag (tlv 0x48 own ++ (tlv 0x49 peer ++ componentsOctets cs))
+unfoldable pub continueOctets : List ℕ → List ℕ → List ℕ → List ℕ → List ℕ
+continueOctets own peer portion cs = tlv continueTag (tlv 0x48 own ++ (tlv 0x49 peer ++ (portion ++ componentsOctets cs)))
 
-unfoldable pub endOctets : List ℕ → List ℕ → List ℕ
-endOctets peer cs = tlv endTag (tlv 0x49 peer ++ componentsOctets cs)
+unfoldable pub endOctets : List ℕ → List ℕ → List ℕ → List ℕ
+endOctets peer portion cs = tlv endTag (tlv 0x49 peer ++ (portion ++ componentsOctets cs))
 
-unfoldable pub uniOctets : List ℕ → List ℕ
-uniOctets cs = tlv uniTag (componentsOctets cs)
+unfoldable pub uniOctets : List ℕ → List ℕ → List ℕ
+uniOctets portion cs = tlv uniTag (portion ++ componentsOctets cs)
 
 -- a user's Abort, with its dialogue portion or none; the transaction sub-layer's, with its cause
 unfoldable pub userAbortOctets : List ℕ → List ℕ → List ℕ

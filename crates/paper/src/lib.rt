@@ -60,6 +60,28 @@ pub struct Message {
     pub cause: u32,
 }
 
+// A dialogue PDU (02 a) as far as its pieces are read: where the next one begins, 0 where one was wrong; the runs of its context name and
+// of its user information; result, diagnostic and abort source as numbers of a row, 65,535 none.
+pub struct Pdu {
+    pub at: usize,
+    pub name: Run,
+    pub information: Run,
+    pub result: u32,
+    pub diagnostic: u32,
+    pub source: u32,
+}
+
+// A dialogue portion as it is read (02 a): none; one of another form; dialogue request (name, information); response (name, information,
+// result, diagnostic); abort (source, information); unidirectional (name, information).
+pub enum Portion {
+    Absent,
+    Opaque,
+    Aarq(Run, Run),
+    Aare(Run, Run, u32, u32),
+    Abrt(u32, Run),
+    Audt(Run, Run),
+}
+
 // An invocation: state 0 Idle, 1 Pending, 2 Sent, 3 Wait, 4 Rejecting; shown: 1 after a result not last was shown.
 pub struct Invocation {
     pub id: u8,

@@ -15,9 +15,9 @@ use Rattle.paper.specs.declared.Head.{Head}
 use Rattle.paper.specs.declared.Head.the-variants.{Bad, Whole, Holds, Opens}
 use Rattle.paper.specs.declared.Reading.{Reading}
 use Rattle.paper.specs.declared.Reading.the-variants.{Ends, Fault}
-use Rattle.paper.specs.Elements.{constructor, lengthAt, headAt, contents, byHead, element, frameTo, frameBy, frameAt}
+use Rattle.paper.specs.Elements.{constructor, lengthAt, headAt, contents, byHead, element, frameTo, frameBy, frameAt, endsAt, isElement}
 use Rattle.paper.specs.Components.{someEnd, codeEnd}
-use Rattle.paper.specs.Dialogues.{endsAt, isElement, isCode}
+use Rattle.paper.specs.Dialogues.{isCode}
 use Rattle.elements.specs.Bounds.{length-in, head-in, contents-in, element-in}
 use Rattle.elements.specs.Steps.{by-head}
 use Rattle.elements.specs.Carry.{element-carry, length-carry}

@@ -10,10 +10,9 @@ use borrow.Author.Tests.{eq-eqb}
 use Rattle.laws.specs.If.{ifEq, lt, ge, eq, ne, yes, by-lt}
 use Rattle.paper.specs.declared.Reading.the-variants.{Ends}
 use Rattle.paper.specs.declared.Frame.{Frame}
-use Rattle.paper.specs.Elements.{element, frameAt}
+use Rattle.paper.specs.Elements.{element, frameAt, isElement}
 use Rattle.paper.specs.Problems.{senderOf, senderOfProblem, byNobody, kindOf, codeOf, noProblem}
 use Rattle.paper.specs.Components.{invokeTag, errorTag, rejectTag, noID, sound, single, codeEnd, lastPiece, invokePieces, resultBoth, resultPieces, problemAt, rejectPieces, nullPieces, piecesAfter, pieces}
-use Rattle.paper.specs.Dialogues.{isElement}
 use Rattle.paper.specs.Writing.{tlv, idThen, problemOctets}
 use Rattle.writing.specs.Lengths.{problem-small}
 use Rattle.readback.specs.Standing.{Has, Stands, has-head, has-first, has-rest, done, more, begins, ends, octet-back, contents-back, holds-back, frame-back}

@@ -13,10 +13,10 @@ use Rattle.laws.specs.Lists.{every}
 use Rattle.paper.specs.declared.Reading.the-variants.{Ends}
 use Rattle.paper.specs.declared.Component.{Component}
 use Rattle.paper.specs.Sizes.{depths}
-use Rattle.paper.specs.Elements.{element}
+use Rattle.paper.specs.Elements.{element, isElement}
 use Rattle.paper.specs.Problems.{noProblem}
 use Rattle.paper.specs.Components.{invokeTag, errorTag, rejectTag, knownTag, noID, sound, componentAt, Item, item, nextStart, goOn, items, components}
-use Rattle.paper.specs.Dialogues.{isElement, isCode, isParameter, isResult}
+use Rattle.paper.specs.Dialogues.{isCode, isParameter, isResult}
 use Rattle.paper.specs.Rules.{isSoundItem}
 use Rattle.paper.specs.Writing.{tlv, idThen, invokeOctets, resultOctets, errorOctets, problemOctets, rejectOctets, Written, octetsOf, joined}
 use Rattle.paper.specs.Writing.Written.{Invoke, Result, Error, Reject}

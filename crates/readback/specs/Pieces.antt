@@ -12,10 +12,9 @@ use Rattle.paper.specs.declared.Reading.the-variants.{Ends}
 use Rattle.paper.specs.declared.Frame.{Frame}
 use Rattle.paper.specs.declared.Component.{Component}
 use Rattle.paper.specs.Sizes.{depths}
-use Rattle.paper.specs.Elements.{constructor, element, frameAt}
+use Rattle.paper.specs.Elements.{constructor, element, frameAt, isElement}
 use Rattle.paper.specs.Problems.{noProblem}
 use Rattle.paper.specs.Components.{knownTag, sound, faulty, single, codeEnd, oneElement, lastPiece, piecesAfter, pieces, readProblem, ifNested, framed, tagAt, componentAt}
-use Rattle.paper.specs.Dialogues.{isElement}
 use Rattle.paper.specs.Writing.{tlv}
 use Rattle.writing.specs.Lengths.{elementSize, element-length}
 use Rattle.readback.specs.Standing.{Has, Stands, short-element, has-head, has-first, has-rest, ShortTag, Parts, done, more, begins, ends, octet-back, contents-back, holds-back, frame-back}

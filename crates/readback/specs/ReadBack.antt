@@ -9,9 +9,9 @@ use Rattle.laws.specs.Runs.{Wrote}
 use Rattle.paper.specs.declared.Reading.the-variants.{Ends}
 use Rattle.paper.specs.declared.Message.{Message}
 use Rattle.paper.specs.Sizes.{depths}
-use Rattle.paper.specs.Elements.{element}
+use Rattle.paper.specs.Elements.{element, isElement}
 use Rattle.paper.specs.Components.{codeEnd, componentAt, components}
-use Rattle.paper.specs.Dialogues.{isElement, isCode, isPortion}
+use Rattle.paper.specs.Dialogues.{isCode, isPortion}
 use Rattle.paper.specs.Writing.{beginOctets, continueOctets, endOctets, uniOctets, userAbortOctets, causeAbortOctets, Written, octetsOf, joined}
 use Rattle.readback.specs.Standing.{Has, has-wrote}
 use Rattle.readback.specs.Written.{Allowed, readAs, parameterOf, AllAllowed, itemsFrom, readBegin, readContinue, readEnd, readUni, readUserAbort, readCauseAbort, Back}

@@ -14,7 +14,8 @@ use Rattle.paper.specs.declared.Message.{Message}
 use Rattle.paper.specs.Sizes.{depths}
 use Rattle.paper.specs.Problems.{noProblem}
 use Rattle.paper.specs.Messages.{uniTag, abortTag, noRun, idAt, originOf, destinationOf, Derived, derived, faultOf, soundOf, closes, closing, octetAt, componentsBy, componentsPart, abortPart, afterPortion, portionPart, inOrder, knownType, typed, byLength, messageOf}
-use Rattle.paper.specs.Dialogues.{isElement, isPortion}
+use Rattle.paper.specs.Elements.{isElement}
+use Rattle.paper.specs.Dialogues.{isPortion}
 use Rattle.paper.specs.Calls.{octetsAt}
 use Rattle.paper.specs.Writing.{tlv, componentsOctets}
 use Rattle.writing.specs.Heads.{componentsHead, components-joined}
