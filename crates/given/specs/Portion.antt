@@ -60,7 +60,9 @@ module _ (n state kind : ℕ) (name info : List ℕ) where
     module _ (f : isInformation info ≡ true) where
       pub refusal-over : 240 < n + length (portionBy (formFor kind) name info) → 12 ≡ refusalOf n state kind name info
       unfolding refusalOf
-      refusal-over h = yes _ _ _ e (yes _ _ _ f (lt {r = 12} _ _ _ _ h refl ∙ first-some _ _ (λ z. omega (arith, sym (lt {r = 12} 240 (n + length (portionBy (formFor kind) name info)) 12 0 h refl)))))
+      refusal-over h =
+          let z : _≡_ {A = ℕ} 12 (overBy n (length (portionBy (formFor kind) name info))) = lt _ _ _ _ h refl in
+          yes _ _ _ e (yes _ _ _ f (z ∙ first-some _ _ (λ y. omega (arith, z, y))))
 
       pub refusal-fits : n + length (portionBy (formFor kind) name info) ≤ 240 → (k : ℕ) → k ≡ unplaced state name info → k ≡ refusalOf n state kind name info
       unfolding refusalOf

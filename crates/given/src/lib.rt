@@ -163,9 +163,9 @@ fn unplaced_by(state: u8, name: &[u8], information: &[u8]) -> u32
     return 0;
 }
 
-// Of a name and information of which one is given, in this order: 11, 12 ("The 240 octets .. count the portion too"), 14 or 0.
+// Of a name and information of which one is given, with any PDU but an ABRT: in this order 11, 12 ("The 240 octets .. count the portion too"), 14 or 0.
 fn formed_refusal(n: usize, state: u8, kind: u8, name: &[u8], information: &[u8]) -> u32
-    requires { ⌜ n ≤ 240 ⌝ }
+    requires { ⌜ (n ≤ 240) × (kind ≡ 4 → ⊥) ⌝ }
     ensures { λ r. ⌜ r ≡ refusalOf n state kind (now (name .entry)) (now (information .entry)) ⌝ }
 {
     if is_name(name) {
@@ -189,7 +189,7 @@ fn formed_refusal(n: usize, state: u8, kind: u8, name: &[u8], information: &[u8]
 
 // Of a name and information where n octets wait: none given, none refused, by two tests.
 pub fn portion_refusal(n: usize, state: u8, kind: u8, name: &[u8], information: &[u8]) -> u32
-    requires { ⌜ n ≤ 240 ⌝ }
+    requires { ⌜ (n ≤ 240) × (kind ≡ 4 → ⊥) ⌝ }
     ensures { λ r. ⌜ r ≡ refusalOf n state kind (now (name .entry)) (now (information .entry)) ⌝ }
 {
     if name.len() == 0 {
