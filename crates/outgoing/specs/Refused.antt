@@ -12,8 +12,10 @@ use Rattle.laws.specs.Lists.{every}
 use Rattle.paper.specs.declared.Component.{Component}
 use Rattle.paper.specs.declared.Control.{Control}
 use Rattle.paper.specs.Components.{Item, componentAt, nextStart, goOn, items, components}
-use Rattle.paper.specs.Portions.{abrt, portionBy}
+use Rattle.paper.specs.Portions.{Form, abrt, portionBy}
 use Rattle.paper.specs.Dialogues.{Place, isPortion, isBlock, isAbort, abortPortion, abortRefusal, ofClass4, uniRefusal}
+use Rattle.writing_portions.specs.Forms.{formFor, form-4}
+use Rattle.writing_portions.specs.Spans.{information-over}
 
 -- ---- components one after another: the test of what is left answers for the whole
 pub record Rest (f : Item → Bool) (w : List ℕ) (at : ℕ) : Type 0 where
@@ -117,6 +119,10 @@ module _ (l : List ℕ) where
     unfolding abortPortion
     abort-formed = eq _ _ _ _ is-told refl
 
+    -- by the number of its PDU
+    pub abort-by : portionBy (formFor 4) [] l ≡ abortPortion l
+    abort-by = ap (λ (f : Form). portionBy f [] l) form-4 ∙ abort-formed
+
   module _ (e : isTold l ≡ false) where
     not-told : getD l 0 0 ≡ 0xBE → ⊥
     unfolding isTold
@@ -129,6 +135,14 @@ module _ (l : List ℕ) where
     pub abort-given : l ≡ abortPortion l
     unfolding abortPortion
     abort-given = ne _ _ _ _ not-told refl
+
+  -- octets over 240 make a portion that is
+  pub abort-long : 240 < length l → 240 < length (abortPortion l)
+  abort-long h = go (isTold l) refl
+    where
+      go : (b : Bool) → isTold l ≡ b → 240 < length (abortPortion l)
+      go true e = omega (arith, information-over 4 [] l h, ap length (abort-by e))
+      go false e = omega (arith, ap length (abort-given e))
 
   pub abort-wrong : isAbort l ≡ false → 11 ≡ abortRefusal l
   unfolding abortRefusal
