@@ -1,12 +1,12 @@
 -- Dialogue portions by the number of their PDU, as what is written one after another (02 a; 004, 4.2.3). Assumes nothing.
-use mathlib.Core.Path.{_≡_, refl, sym, ap, _∙_, subst}
+use mathlib.Core.Path.{_≡_, refl, sym, ap, _∙_}
 use mathlib.Core.List.{List, [], _∷_, _++_, append-assoc, append-nil}
 use Prim.Native.Nat.{ℕ, _+_, _≤_}
 use native.Mathlib.Omega.{arith}
 use lib.ListN.{length, length-append}
 use Rattle.laws.specs.If.{ifLt, ifEq, eq, ne, by-eq}
 use Rattle.paper.specs.Writing.{lengthOctets, tlv}
-use Rattle.paper.specs.Portions.{Form, aarq, aare, abrt, audt, pieceOctets, piecesOctets, portionOctets, portionBy}
+use Rattle.paper.specs.Portions.{Form, structured, unstructured, aarq, aare, abrt, audt, pieceOctets, piecesOctets}
 use Rattle.writing.specs.Heads.{elementHead}
 use Rattle.writing.specs.Lengths.{elementSize, element-of, element-length, element-small, id-length}
 
@@ -107,15 +107,22 @@ module _ (kind : ℕ) where
     pub some-named : (kind ≡ 4 → ⊥) → (length name ≡ 0 → ⊥) → tlv 0xA1 name ≡ nameOctets kind name
     some-named g h = ne (length name) 0 [] (tlv 0xA1 name) h refl ∙ with-name g
 
-  -- what holds of the four forms
-  pub of-forms : (P : Form → Type 0) → P aarq → P aare → P abrt → P audt → P (formFor kind)
-  of-forms P q e b u =
-      by-eq {A = ℕ} kind 3 0 0 refl (λ h _. subst P (as-aare h) e)
-      (λ x _. by-eq {A = ℕ} kind 4 0 0 refl (λ h _. subst P (as-abrt h) b)
-      (λ y _. by-eq {A = ℕ} kind 5 0 0 refl (λ h _. subst P (as-audt h) u) (λ z _. subst P (as-aarq x y z) q)))
+  -- what a number says of its form
+  pub tag-plain : (kind ≡ 3 → ⊥) → (kind ≡ 4 → ⊥) → 0x60 ≡ formFor kind .tag
+  tag-plain a b =
+      by-eq {A = ℕ} kind 5 0 0 refl (λ h _. ap (λ (f : Form). f .tag) (as-audt h)) (λ c _. ap (λ (f : Form). f .tag) (as-aarq a b c))
+
+  pub for-audt : kind ≡ 5 → unstructured ≡ formFor kind .identifier
+  for-audt h = ap (λ (f : Form). f .identifier) (as-audt h)
+
+  pub for-dialogue : (kind ≡ 5 → ⊥) → structured ≡ formFor kind .identifier
+  for-dialogue c =
+      by-eq {A = ℕ} kind 3 0 0 refl (λ h _. ap (λ (f : Form). f .identifier) (as-aare h))
+      (λ a _. by-eq {A = ℕ} kind 4 0 0 refl (λ h _. ap (λ (f : Form). f .identifier) (as-abrt h))
+      (λ b _. ap (λ (f : Form). f .identifier) (as-aarq a b c)))
 
   pub identifier-length : length (formFor kind .identifier) ≡ 7
-  identifier-length = of-forms (λ (f : Form). length (f .identifier) ≡ 7) refl refl refl refl
+  identifier-length = by-eq {A = ℕ} kind 5 0 0 refl (λ h _. ap length (sym (for-audt h))) (λ c _. ap length (sym (for-dialogue c)))
 
 -- THE PIECES IN ORDER are the PDU's
 module _ (name info : List ℕ) where
@@ -161,6 +168,30 @@ around-small n =
     let c = element-small (9 + elementSize (elementSize n)) in
     let d = element-small (elementSize (9 + elementSize (elementSize n))) in
     (omega (arith, a, b, c, d), omega (arith, a, b, c, d))
+
+-- by lengths counted from the inside out
+module _ (n pdu held external : ℕ) (p : pdu ≡ elementSize n) (q : held ≡ elementSize pdu) (r : external ≡ elementSize (9 + held)) where
+  held-as : held ≡ elementSize (elementSize n)
+  held-as = q ∙ ap elementSize p
+
+  external-as : external ≡ elementSize (9 + elementSize (elementSize n))
+  external-as = r ∙ ap (λ (m : ℕ). elementSize (9 + m)) held-as
+
+  pub around-size : elementSize external ≡ aroundSize n
+  unfolding aroundSize
+  around-size = ap elementSize external-as
+
+  pub around-head : (f : Form) {object : List ℕ} {tag : ℕ} → object ≡ tlv 6 (f .identifier) → tag ≡ f .tag
+      → elementHead 0x6B external ++ (elementHead 0x28 (9 + held) ++ (object ++ (elementHead 0xA0 pdu ++ elementHead tag n))) ≡ aroundHead f n
+  unfolding aroundHead
+  around-head f {object} {tag} o t =
+      let i : List ℕ = tlv 6 (f .identifier) in
+      let m : ℕ = 9 + elementSize (elementSize n) in
+      ap (λ (x : ℕ). elementHead 0x6B x ++ (elementHead 0x28 (9 + held) ++ (object ++ (elementHead 0xA0 pdu ++ elementHead tag n)))) external-as
+      ∙ ap (λ (x : ℕ). elementHead 0x6B (elementSize m) ++ (elementHead 0x28 (9 + x) ++ (object ++ (elementHead 0xA0 pdu ++ elementHead tag n)))) held-as
+      ∙ ap (λ (x : List ℕ). elementHead 0x6B (elementSize m) ++ (elementHead 0x28 m ++ (x ++ (elementHead 0xA0 pdu ++ elementHead tag n)))) o
+      ∙ ap (λ (x : ℕ). elementHead 0x6B (elementSize m) ++ (elementHead 0x28 m ++ (i ++ (elementHead 0xA0 x ++ elementHead tag n)))) p
+      ∙ ap (λ (x : ℕ). elementHead 0x6B (elementSize m) ++ (elementHead 0x28 m ++ (i ++ (elementHead 0xA0 (elementSize n) ++ elementHead x n)))) t
 
 module _ (f : Form) (k : length (f .identifier) ≡ 7) where
   nine : length (tlv 6 (f .identifier)) ≡ 9

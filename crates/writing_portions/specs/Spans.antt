@@ -8,7 +8,7 @@ use Rattle.laws.specs.If.{ifEq, eq, ne, by-eq}
 use Rattle.paper.specs.Writing.{tlv}
 use Rattle.paper.specs.Portions.{portionOctets, portionBy}
 use Rattle.writing.specs.Lengths.{elementSize, element-length, element-small}
-use Rattle.writing_portions.specs.Forms.{formFor, nameOctets, between, pduOctets, no-name, none-named, some-named, identifier-length, pieces-joined, aroundSize, around-small, around-of}
+use Rattle.writing_portions.specs.Forms.{formFor, nameOctets, between, pduOctets, no-name, none-named, some-named, identifier-length, pieces-joined, aroundSize, aroundHead, around-small, around-of, around-joined}
 
 unfoldable pub nameSize : ℕ → ℕ → ℕ
 nameSize kind n = ifEq kind 4 0 (ifEq n 0 0 (elementSize n))
@@ -56,7 +56,7 @@ module _ (kind name info : ℕ) where
       (λ h _. omega (arith, present-size h, around-small (pduSize kind name info), name-held kind name g))
 
 -- THE LENGTHS
-module _ (kind : ℕ) (name info : List ℕ) where
+module _ (kind : ℕ) (name : List ℕ) where
   pub name-length : length (nameOctets kind name) ≡ nameSize kind (length name)
   name-length =
       by-eq {A = ℕ} kind 4 0 0 refl (λ h _. ap length (sym (no-name kind name h)) ∙ no-size kind (length name) h)
@@ -64,10 +64,11 @@ module _ (kind : ℕ) (name info : List ℕ) where
       (λ h _. ap length (sym (none-named kind name g h)) ∙ none-size kind (length name) g h)
       (λ h _. ap length (sym (some-named kind name g h)) ∙ element-length 0xA1 name ∙ some-size kind (length name) g h))
 
+module _ (kind : ℕ) (name info : List ℕ) where
   pub pdu-length : length (pduOctets (formFor kind) name info) ≡ pduSize kind (length name) (length info)
   pdu-length =
       ap length (sym (pieces-joined name info kind))
-      ∙ omega (arith, name-length, length-append (nameOctets kind name) (between kind ++ info), length-append (between kind) info)
+      ∙ omega (arith, name-length kind name, length-append (nameOctets kind name) (between kind ++ info), length-append (between kind) info)
 
   pub absent : length name + length info ≡ 0 → [] ≡ portionBy (formFor kind) name info
   unfolding portionBy
@@ -92,3 +93,11 @@ module _ (kind : ℕ) (name info : List ℕ) where
 
   pub name-over : (kind ≡ 4 → ⊥) → 240 < length name → 240 < length (portionBy (formFor kind) name info)
   name-over g h = omega (arith, portion-length, both-within kind (length name) (length info) g)
+
+  -- as it is written: what stands around the PDU's pieces, then those
+  module _ (h : length name + length info ≡ 0 → ⊥) (n : ℕ) (e : n ≡ pduSize kind (length name) (length info)) where
+    pub portion-around : aroundSize n ≡ length (portionBy (formFor kind) name info)
+    portion-around = ap aroundSize e ∙ present-size kind (length name) (length info) h ∙ sym portion-length
+
+    pub portion-joined : aroundHead (formFor kind) n ++ pduOctets (formFor kind) name info ≡ portionBy (formFor kind) name info
+    portion-joined = around-joined (formFor kind) (identifier-length kind) (pduOctets (formFor kind) name info) n (e ∙ sym pdu-length) ∙ present h

@@ -1,8 +1,6 @@
-use mathlib.Core.Path.{ap, _∙_}
-use Prim.Native.Nat.{ℕ, _+_}
+use mathlib.Core.Path.{_∙_}
 use native.Mathlib.Omega.{arith}
-use Rattle.writing.specs.Lengths.{elementSize}
-use Rattle.writing_portions.specs.Forms.{aroundSize}
+use Rattle.writing_portions.specs.Forms.{around-size}
 use borrow.Author.Needs.{needs}
 use Rattle.writing_portions.proofs.around_size.Statement.{statement}
 use Rattle.writing_portions.proofs.around_size.Tie as tie
@@ -23,12 +21,11 @@ element-size-requires-4 : tie.Need-element-size-requires-4
 element-size-requires-4 c κs = search needs
 
 returns : tie.Need-returns
-unfolding aroundSize
 returns c =
     let pdu = c .before .before .before .element-size .ensures .0 in
-    let held = c .before .before .element-size2 .ensures .0 ∙ ap elementSize pdu in
-    let external = c .before .element-size3 .ensures .0 ∙ ap (λ (n : ℕ). elementSize (9 + n)) held in
-    (c .element-size4 .ensures .0 ∙ ap elementSize external, omega arith)
+    let held = c .before .before .element-size2 .ensures .0 in
+    let external = c .before .element-size3 .ensures .0 in
+    (c .element-size4 .ensures .0 ∙ around-size (c .before .before .before .before .args .n) _ _ _ pdu held external, omega arith)
 
 pub around-size-spec : {M : Type 1} → statement M
 around-size-spec =
