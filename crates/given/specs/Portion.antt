@@ -5,7 +5,7 @@ use mathlib.Core.List.{List, []}
 use Prim.Native.Nat.{ℕ, _+_, _<_, _≤_}
 use native.Mathlib.Omega.{arith}
 use lib.ListN.{length}
-use Rattle.laws.specs.If.{ifB, lt, ge, eq, ne, yes, no, by-eq, was-eq, was-yes, was-ge}
+use Rattle.laws.specs.If.{ifB, lt, ge, eq, ne, yes, no, by-eq, was-yes, was-ge}
 use Rattle.paper.specs.Portions.{Form, portionBy}
 use Rattle.paper.specs.Dialogues.{Place, isName, isInformation, overfull, first, unplaced, portionRefusal}
 use Rattle.given.specs.Pieces.{overBy}
@@ -32,6 +32,19 @@ module _ (n m : ℕ) where
   pub first-some : (n ≡ 0 → ⊥) → n ≡ first n m
   unfolding first
   first-some h = ne _ _ _ _ h refl
+
+  pub first-zero : 0 ≡ first n m → (n ≡ 0) × (0 ≡ m)
+  unfolding first
+  first-zero e = by-eq n 0 m n e (λ z h. (z, h)) (λ z h. absurd (z (sym h)))
+
+-- NOT REFUSED: waiting octets and portion are at most 240 together
+pub portion-fits : (x : Place) (f : Form) (name info : List ℕ) → 0 ≡ portionRefusal x f name info → length (x .waiting) + length (portionBy f name info) ≤ 240
+unfolding portionRefusal overfull
+portion-fits x f name info e =
+    let a = was-yes _ _ _ e (λ z. omega (arith, z)) in
+    let b = was-yes _ _ _ (a .1) (λ z. omega (arith, z)) in
+    let c = first-zero _ _ (b .1) in
+    was-ge _ _ _ _ (sym (c .0)) (λ z. omega (arith, z)) .0
 
 -- NEITHER GIVEN: no portion, and no refusal
 module _ (name info : List ℕ) (a : length name ≡ 0) (b : length info ≡ 0) where

@@ -7,7 +7,7 @@ use native.Mathlib.Omega.{arith}
 use lib.Dec.{ltb, eqb}
 use lib.ListN.{length, getD, List·getD-eq-default}
 use borrow.Author.Tests.{lt-ltb, le-ltb, ne-eqb, eqb-true, eqb-false}
-use Rattle.laws.specs.If.{ifB, lt, ge, eq, ne, yes, no, was-eq, true-false}
+use Rattle.laws.specs.If.{ifB, lt, ge, eq, ne, yes, no, by-lt, was-eq, was-ge, was-yes, true-false}
 use Rattle.laws.specs.Lists.{every}
 use Rattle.paper.specs.declared.Component.{Component}
 use Rattle.paper.specs.declared.Control.{Control}
@@ -156,3 +156,11 @@ module _ (l : List ℕ) where
     pub abort-fits : length (abortPortion l) ≤ 240 → 0 ≡ abortRefusal l
     unfolding abortRefusal
     abort-fits h = yes _ _ _ e (ge _ _ _ _ h refl)
+
+-- not refused: neither what is given nor its portion is over 240
+pub abort-octets : (l : List ℕ) → 0 ≡ abortRefusal l → (length l ≤ 240) × (length (abortPortion l) ≤ 240)
+unfolding abortRefusal
+abort-octets l e =
+    let a = was-yes _ _ _ e (λ z. omega (arith, z)) in
+    let b : length (abortPortion l) ≤ 240 = was-ge _ _ _ _ (a .1) (λ z. omega (arith, z)) .0 in
+    (by-lt {A = ℕ} 240 (length l) 0 0 refl (λ h _. absurd (omega (arith, b, abort-long l h))) (λ h _. h), b)

@@ -12,6 +12,7 @@ ghost use Rattle.paper.specs.Dialogues.{ofClass4, uniRefusal, isAbort, abortPor
 ghost use Rattle.paper.specs.Calls.{placeAt, withPlace};
 ghost use Rattle.paper.specs.Layout.{encode, view};
 ghost use Rattle.facts.specs.Fine.{FineControl};
+ghost use Rattle.writing.specs.Lengths.{Room};
 ghost use Rattle.outgoing.specs.Refused.{class4, isTold};
 ghost use Rattle.outgoing.specs.Sent.{Holds, Sends, controlAfter};
 
@@ -205,7 +206,7 @@ pub fn abort_size(portion: &[u8]) -> usize
 
 // An abort's dialogue portion.
 pub fn write_aborted(out: &mut [u8], at: usize, portion: &[u8]) -> usize
-    requires { ⌜ (length (now portion) ≤ 240) × (at + length (abortPortion (now portion)) ≤ length (now out)) ⌝ }
+    requires { ⌜ (length (now portion) ≤ 240) × Room (now out) at (length (abortPortion (now portion))) ⌝ }
     ensures { λ r. ⌜ Wrote (now (out .entry)) at (abortPortion (now (portion .entry))) r (now (out .exit)) ⌝ }
 {
     if is_told(portion) {

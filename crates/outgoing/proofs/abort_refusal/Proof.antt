@@ -48,4 +48,3 @@ pub abort-refusal-spec : {M : Type 1} → statement M
 abort-refusal-spec =
     tie.close
     (tie.spec is-abort-requires returns abort-size-requires returns-2 returns-3 returns-4)
-

@@ -30,4 +30,3 @@ returns-2 c =
 
 pub abort-size-spec : {M : Type 1} → statement M
 abort-size-spec = tie.close (tie.spec is-told-requires portion-size-requires returns returns-2)
-
