@@ -151,47 +151,45 @@ module _ (name info : List ℕ) where
       (λ b _. by-eq {A = ℕ} kind 5 0 0 refl (λ h _. joined-as kind (with-name kind name b) (between-plain kind a b) (as-audt kind h) in-plain)
       (λ c _. joined-as kind (with-name kind name b) (between-plain kind a b) (as-aarq kind a b c) in-plain)))
 
--- WHAT STANDS AROUND n octets of pieces: 6B, 28, the object identifier, A0, the PDU's tag and length
+-- WHAT STANDS AROUND n octets of pieces: 6B, 28, the object identifier, A0, the PDU's tag and length; the 28 holds so much
+abbrev pub heldSize : ℕ → ℕ
+heldSize n = 9 + elementSize (elementSize n)
+
 unfoldable pub aroundSize : ℕ → ℕ
-aroundSize n = elementSize (elementSize (9 + elementSize (elementSize n)))
+aroundSize n = elementSize (elementSize (heldSize n))
 
 unfoldable pub aroundHead : Form → ℕ → List ℕ
 aroundHead f n =
-    elementHead 0x6B (elementSize (9 + elementSize (elementSize n)))
-    ++ (elementHead 0x28 (9 + elementSize (elementSize n)) ++ (tlv 6 (f .identifier) ++ (elementHead 0xA0 (elementSize n) ++ elementHead (f .tag) n)))
+    elementHead 0x6B (elementSize (heldSize n))
+    ++ (elementHead 0x28 (heldSize n) ++ (tlv 6 (f .identifier) ++ (elementHead 0xA0 (elementSize n) ++ elementHead (f .tag) n)))
 
 pub around-small : (n : ℕ) → (n + 17 ≤ aroundSize n) × (aroundSize n ≤ n + 25)
 unfolding aroundSize
 around-small n =
     let a = element-small n in
     let b = element-small (elementSize n) in
-    let c = element-small (9 + elementSize (elementSize n)) in
-    let d = element-small (elementSize (9 + elementSize (elementSize n))) in
+    let c = element-small (heldSize n) in
+    let d = element-small (elementSize (heldSize n)) in
     (omega (arith, a, b, c, d), omega (arith, a, b, c, d))
 
--- by lengths counted from the inside out
-module _ (n pdu held external : ℕ) (p : pdu ≡ elementSize n) (q : held ≡ elementSize pdu) (r : external ≡ elementSize (9 + held)) where
-  held-as : held ≡ elementSize (elementSize n)
-  held-as = q ∙ ap elementSize p
-
-  external-as : external ≡ elementSize (9 + elementSize (elementSize n))
-  external-as = r ∙ ap (λ (m : ℕ). elementSize (9 + m)) held-as
-
+-- by lengths that were counted
+module _ (n held external : ℕ) (q : held ≡ heldSize n) (r : external ≡ elementSize held) where
   pub around-size : elementSize external ≡ aroundSize n
   unfolding aroundSize
-  around-size = ap elementSize external-as
+  around-size = ap elementSize (r ∙ ap elementSize q)
 
-  pub around-head : (f : Form) {object : List ℕ} {tag : ℕ} → object ≡ tlv 6 (f .identifier) → tag ≡ f .tag
-      → elementHead 0x6B external ++ (elementHead 0x28 (9 + held) ++ (object ++ (elementHead 0xA0 pdu ++ elementHead tag n))) ≡ aroundHead f n
+  pub around-head : (f : Form) {object : List ℕ} {pdu tag : ℕ} → object ≡ tlv 6 (f .identifier) → pdu ≡ elementSize n → tag ≡ f .tag
+      → elementHead 0x6B external ++ (elementHead 0x28 held ++ (object ++ (elementHead 0xA0 pdu ++ elementHead tag n))) ≡ aroundHead f n
   unfolding aroundHead
-  around-head f {object} {tag} o t =
+  around-head f {object} {pdu} {tag} o p t =
       let i : List ℕ = tlv 6 (f .identifier) in
-      let m : ℕ = 9 + elementSize (elementSize n) in
-      ap (λ (x : ℕ). elementHead 0x6B x ++ (elementHead 0x28 (9 + held) ++ (object ++ (elementHead 0xA0 pdu ++ elementHead tag n)))) external-as
-      ∙ ap (λ (x : ℕ). elementHead 0x6B (elementSize m) ++ (elementHead 0x28 (9 + x) ++ (object ++ (elementHead 0xA0 pdu ++ elementHead tag n)))) held-as
-      ∙ ap (λ (x : List ℕ). elementHead 0x6B (elementSize m) ++ (elementHead 0x28 m ++ (x ++ (elementHead 0xA0 pdu ++ elementHead tag n)))) o
-      ∙ ap (λ (x : ℕ). elementHead 0x6B (elementSize m) ++ (elementHead 0x28 m ++ (i ++ (elementHead 0xA0 x ++ elementHead tag n)))) p
-      ∙ ap (λ (x : ℕ). elementHead 0x6B (elementSize m) ++ (elementHead 0x28 m ++ (i ++ (elementHead 0xA0 (elementSize n) ++ elementHead x n)))) t
+      let x : List ℕ = elementHead 0x6B (elementSize (heldSize n)) in
+      let y : List ℕ = elementHead 0x28 (heldSize n) in
+      ap (λ (m : ℕ). elementHead 0x6B m ++ (elementHead 0x28 held ++ (object ++ (elementHead 0xA0 pdu ++ elementHead tag n)))) (r ∙ ap elementSize q)
+      ∙ ap (λ (m : ℕ). x ++ (elementHead 0x28 m ++ (object ++ (elementHead 0xA0 pdu ++ elementHead tag n)))) q
+      ∙ ap (λ (l : List ℕ). x ++ (y ++ (l ++ (elementHead 0xA0 pdu ++ elementHead tag n)))) o
+      ∙ ap (λ (m : ℕ). x ++ (y ++ (i ++ (elementHead 0xA0 m ++ elementHead tag n)))) p
+      ∙ ap (λ (m : ℕ). x ++ (y ++ (i ++ (elementHead 0xA0 (elementSize n) ++ elementHead m n)))) t
 
 module _ (f : Form) (k : length (f .identifier) ≡ 7) where
   nine : length (tlv 6 (f .identifier)) ≡ 9
@@ -203,13 +201,13 @@ module _ (f : Form) (k : length (f .identifier) ≡ 7) where
       let o : List ℕ = tlv 6 (f .identifier) in
       let p : List ℕ = elementHead (f .tag) n in
       let q : List ℕ = elementHead 0xA0 (elementSize n) in
-      let x : List ℕ = elementHead 0x28 (9 + elementSize (elementSize n)) in
-      let y : List ℕ = elementHead 0x6B (elementSize (9 + elementSize (elementSize n))) in
+      let x : List ℕ = elementHead 0x28 (heldSize n) in
+      let y : List ℕ = elementHead 0x6B (elementSize (heldSize n)) in
       omega (arith, nine, length-append y (x ++ (o ++ (q ++ p))), length-append x (o ++ (q ++ p)), length-append o (q ++ p), length-append q p)
 
   -- the octets, from the inside out
   module _ (c : List ℕ) where
-    held-length : 9 + elementSize (elementSize (length c)) ≡ length (tlv 6 (f .identifier) ++ tlv 0xA0 (tlv (f .tag) c))
+    held-length : heldSize (length c) ≡ length (tlv 6 (f .identifier) ++ tlv 0xA0 (tlv (f .tag) c))
     held-length =
         let p : List ℕ = tlv (f .tag) c in
         let e : elementSize (length p) ≡ elementSize (elementSize (length c)) = ap elementSize (element-length (f .tag) c) in
@@ -227,7 +225,7 @@ module _ (f : Form) (k : length (f .identifier) ≡ 7) where
         let o : List ℕ = tlv 6 (f .identifier) in
         let p : List ℕ = tlv (f .tag) c in
         let b : List ℕ = o ++ tlv 0xA0 p in
-        let m : ℕ = 9 + elementSize (elementSize (length c)) in
+        let m : ℕ = heldSize (length c) in
         let q : List ℕ = elementHead 0xA0 (elementSize (length c)) in
         let t : List ℕ = elementHead (f .tag) (length c) in
         let j : aroundHead f (length c) ++ c ≡ elementHead 0x6B (elementSize m) ++ (elementHead 0x28 m ++ (o ++ (q ++ (t ++ c)))) = simp append-assoc in

@@ -1,12 +1,12 @@
 // The dialogue portions written (02 a): into a lent space, at a position. A PDU is told by its kind: 2 AARQ, 3 AARE, 4 ABRT, 5 AUDT.
 ghost use mathlib.Core.Path.{_≡_};
-ghost use Prim.Native.Nat.{_+_, _-_, _<_, _≤_};
+ghost use Prim.Native.Nat.{_+_, _≤_};
 ghost use lib.ListN.{length};
 ghost use Rattle.laws.specs.Runs.{Wrote};
 ghost use Rattle.paper.specs.Writing.{tlv};
 ghost use Rattle.paper.specs.Portions.{portionBy};
 ghost use Rattle.writing.specs.Lengths.{Room};
-ghost use Rattle.writing_portions.specs.Forms.{formFor, nameOctets, between, pduOctets, aroundSize, aroundHead};
+ghost use Rattle.writing_portions.specs.Forms.{formFor, nameOctets, between, pduOctets, heldSize, aroundSize, aroundHead};
 ghost use Rattle.writing_portions.specs.Spans.{nameSize, pduSize, portionSize};
 
 // The octets of the A1 with a name: none where none is given, and an ABRT has none.
@@ -47,15 +47,23 @@ fn pdu_size(kind: u8, name: usize, information: usize) -> usize
     name_size(kind, name) + (between_size(kind) + information)
 }
 
-// A portion whose PDU holds n octets: the PDU, the A0, the 28 with the object identifier, the 6B.
+// What the 28 holds where the PDU holds n octets: the object identifier, and the A0 with the PDU.
+fn held_size(n: usize) -> usize
+    requires { ⌜ n ≤ 65000 ⌝ }
+    ensures is { λ r. ⌜ r ≡ heldSize n ⌝ }
+    ensures within { λ r. ⌜ r ≤ n + 17 ⌝ }
+{
+    let pdu = writing::element_size(n);
+    9 + writing::element_size(pdu)
+}
+
+// And a whole portion, the 6B with the 28.
 fn around_size(n: usize) -> usize
     requires { ⌜ n ≤ 65000 ⌝ }
     ensures is { λ r. ⌜ r ≡ aroundSize n ⌝ }
     ensures within { λ r. ⌜ r ≤ n + 25 ⌝ }
 {
-    let pdu = writing::element_size(n);
-    let held = writing::element_size(pdu);
-    let external = writing::element_size(9 + held);
+    let external = writing::element_size(held_size(n));
     writing::element_size(external)
 }
 
@@ -135,26 +143,23 @@ fn tag_of(kind: u8) -> u8
     0x60
 }
 
-// What stands before the n octets in a PDU: the lengths from the inside out, then the heads.
+// What stands before the n octets in a PDU: heads, from the outside in.
 fn write_around(out: &mut [u8], at: usize, kind: u8, n: usize) -> usize
     requires { ⌜ (n ≤ 65000) × (at + aroundSize n ≤ length (now out)) ⌝ }
     ensures { λ r. ⌜ Wrote (now (out .entry)) at (aroundHead (formFor kind) n) r (now (out .exit)) ⌝ }
 {
-    let pdu = writing::element_size(n);
-    let held = writing::element_size(pdu);
-    let external = writing::element_size(9 + held);
+    let held = held_size(n);
     let object = identifier(kind);
-    let tag = tag_of(kind);
-    let a = writing::write_head(out, at, 0x6B, external);
-    let b = writing::write_head(out, a, 0x28, 9 + held);
+    let a = writing::write_head(out, at, 0x6B, writing::element_size(held));
+    let b = writing::write_head(out, a, 0x28, held);
     let d = writing::copy_at(out, b, &object);
-    let e = writing::write_head(out, d, 0xA0, pdu);
-    writing::write_head(out, e, tag, n)
+    let e = writing::write_head(out, d, 0xA0, writing::element_size(n));
+    writing::write_head(out, e, tag_of(kind), n)
 }
 
 // A portion with a name and user information: nothing where neither is given.
 pub fn write_portion(out: &mut [u8], at: usize, kind: u8, name: &[u8], information: &[u8]) -> usize
-    requires { ⌜ (length (now name) ≤ 240) × ((length (now information) ≤ 240) × Room (now out) at (length (portionBy (formFor kind) (now name) (now information)))) ⌝ }
+    requires { ⌜ (length (now name) ≤ 240) × (length (now information) ≤ 240) × Room (now out) at (length (portionBy (formFor kind) (now name) (now information))) ⌝ }
     ensures { λ r. ⌜ Wrote (now (out .entry)) at (portionBy (formFor kind) (now (name .entry)) (now (information .entry))) r (now (out .exit)) ⌝ }
 {
     if name.len() + information.len() == 0 {

@@ -1,7 +1,7 @@
 use mathlib.Core.Path.{refl}
 use native.Mathlib.Omega.{arith}
 use Rattle.laws.specs.Runs.{wrote-as, wrote-more, wrote-none}
-use Rattle.writing_portions.specs.Forms.{formFor, identifier-length, around-length, around-small}
+use Rattle.writing_portions.specs.Forms.{formFor, identifier-length, around-length}
 use Rattle.writing_portions.specs.Spans.{absent, portion-around, portion-joined}
 use borrow.Author.Needs.{needs}
 use Rattle.writing_portions.proofs.write_portion.Statement.{statement}
