@@ -20,7 +20,7 @@ write-portion-requires c κs =
     let is-told = c .before .before .before .is-told in
     let if1 = c .before .before .if1 in
     let e = ap length (abort-by (args .portion .now) (sym (is-told .ensures) ∙ if1 .taken)) in
-    (omega arith, (pre .0, (omega (arith, e, pre .1), omega (arith, e, pre .1))))
+    (omega arith, pre .0, (omega (arith, e, pre .1), omega (arith, e, pre .1)))
 
 same-length : tie.Need-same-length
 same-length c = search needs
