@@ -1,7 +1,7 @@
 -- A MESSAGE AS IT IS WRITTEN: up to its IDs, then its dialogue portion and what is sent. Assumes nothing.
 use mathlib.Core.Path.{_≡_, refl, sym, ap, _∙_}
 use mathlib.Core.Bool.{Bool}
-use mathlib.Core.List.{List, _++_}
+use mathlib.Core.List.{List, [], _++_}
 use Prim.Native.Nat.{ℕ, _+_, _<_, _≤_}
 use native.Mathlib.Omega.{arith}
 use lib.ListN.{length, length-append}
@@ -9,14 +9,15 @@ use Rattle.laws.specs.Runs.{Wrote, wrote-more, wrote-as}
 use Rattle.paper.specs.declared.Control.{Control}
 use Rattle.paper.specs.Sizes.{idOctets}
 use Rattle.paper.specs.Messages.{abortTag}
-use Rattle.paper.specs.Writing.{tlv, userAbortOctets}
-use Rattle.paper.specs.Portions.{Form, portionBy}
-use Rattle.paper.specs.Dialogues.{Place, Done, peerOf, sentComponents, rejectsFit, fitsWith, portionRefusal}
+use Rattle.paper.specs.Writing.{tlv, beginOctets, continueOctets, endOctets, uniOctets, userAbortOctets}
+use Rattle.paper.specs.Portions.{Form, aarq, aare, audt, portionBy}
+use Rattle.paper.specs.Dialogues.{Place, Done, done, freed, peerOf, sentComponents, afterSending, rejectsFit, fitsWith, portionRefusal, does}
+use Rattle.paper.specs.Dialogues.Request.{Begin, Continue, End, Unidirectional}
 use Rattle.facts.specs.Fine.{FineControl}
 use Rattle.writing.specs.Heads.{componentsHead, frontHead, abort-joined}
 use Rattle.writing.specs.Lengths.{elementSize, element-small, components-small, front-length, id-length, peer-length}
-use Rattle.writing_portions.specs.Forms.{formFor}
-use Rattle.writing_portions.specs.Spans.{portionSize, both-within, portion-length}
+use Rattle.writing_portions.specs.Forms.{formFor, form-2, form-3, form-5}
+use Rattle.writing_portions.specs.Spans.{both-within, portion-length}
 use Rattle.given.specs.Portion.{portion-fits}
 use Rattle.outgoing.specs.Sent.{Sends}
 
@@ -56,13 +57,18 @@ module _ {l o : List ℕ} {a : ℕ} (tag q n m : ℕ) (ids : List ℕ) (h : leng
   pub rest-room : 272 ≤ length l → a + restSize q n ≤ length o
   rest-room k = omega (arith, w .past, w .long, front-length tag ids m, element-small (length ids + m), components-small n)
 
-  pub message-wrote : {r : ℕ} {z portion cs ms : List ℕ} → q ≡ length portion → n ≡ length cs → Wrote o a (rest portion cs) r z
+  pub message-wrote : {r : ℕ} {z ms : List ℕ} (portion cs : List ℕ) → q ≡ length portion → n ≡ length cs → Wrote o a (rest portion cs) r z
       → (m ≡ restSize (length portion) (length cs) → frontHead tag ids m ++ rest portion cs ≡ ms) → Wrote l 0 ms r z × (r ≤ 272)
-  message-wrote {portion = portion} {cs = cs} i j v f =
+  message-wrote portion cs i j v f =
       let s : restSize q n ≡ restSize (length portion) (length cs) = ap (λ (k : ℕ). restSize k n) i ∙ ap (restSize (length portion)) j in (
         wrote-as (wrote-more w refl v) (f (e ∙ s)),
         omega (arith, w .past, v .past, rest-length portion cs, s, e, front-length tag ids m, element-small (length ids + m), components-small n),
       )
+
+pub rest-wrote : {l m o z : List ℕ} {at a b r : ℕ} (n : ℕ) (portion cs : List ℕ) → n ≡ length cs → Wrote l at portion a m → Wrote m a (componentsHead n) b o
+    → Wrote o b cs r z → Wrote l at (rest portion cs) r z
+rest-wrote n portion cs e u v w =
+    wrote-as (wrote-more u refl (wrote-more v refl w)) (ap (λ (k : ℕ). portion ++ (componentsHead k ++ cs)) e)
 
 -- ---- what is sent, by the form of its PDU
 module _ (x : Place) (kind : ℕ) (f : Form) (e : formFor kind ≡ f) (name info : List ℕ) where
@@ -71,6 +77,29 @@ module _ (x : Place) (kind : ℕ) (f : Form) (e : formFor kind ≡ f) (name info
   as-sent w k =
       ap (λ (g : Form). k (portionBy g name info) (fitsWith x (portionBy g name info))) (sym e)
       ∙ ap (k (portionBy (formFor kind) name info)) (ap (rejectsFit x) (sym (w .portion)) ∙ sym (w .sends .fit))
+
+module _ (d : ℕ) (x : Place) (name info : List ℕ) {q n : ℕ} {fits : Bool} where
+  pub begin-does : Follows x 2 name info q fits n
+      → does d x (Begin name info) ≡ done (afterSending x fits 2) [] (beginOctets (idOctets d) (portionBy (formFor 2) name info) (sentComponents x fits))
+  unfolding does
+  begin-does w = as-sent x 2 aarq form-2 name info w (λ l b. done (afterSending x b 2) [] (beginOctets (idOctets d) l (sentComponents x b)))
+
+  pub continue-does : Follows x 3 name info q fits n
+      → does d x (Continue name info)
+      ≡ done (afterSending x fits 4) [] (continueOctets (idOctets d) (peerOf (x .control)) (portionBy (formFor 3) name info) (sentComponents x fits))
+  unfolding does
+  continue-does w =
+      as-sent x 3 aare form-3 name info w (λ l b. done (afterSending x b 4) [] (continueOctets (idOctets d) (peerOf (x .control)) l (sentComponents x b)))
+
+  pub end-does : Follows x 3 name info q fits n
+      → does d x (End name info) ≡ done (freed x) [] (endOctets (peerOf (x .control)) (portionBy (formFor 3) name info) (sentComponents x fits))
+  unfolding does
+  end-does w = as-sent x 3 aare form-3 name info w (λ l b. done (freed x) [] (endOctets (peerOf (x .control)) l (sentComponents x b)))
+
+  pub uni-does : Follows x 5 name info q fits n
+      → does d x (Unidirectional name info) ≡ done (freed x) [] (uniOctets (portionBy (formFor 5) name info) (sentComponents x fits))
+  unfolding does
+  uni-does w = as-sent x 5 audt form-5 name info w (λ l b. done (freed x) [] (uniOctets l (sentComponents x b)))
 
 -- ---- the octets of the IDs
 pub own-length : (d : ℕ) → length (tlv 0x48 (idOctets d)) ≡ 6

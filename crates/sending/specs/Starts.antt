@@ -7,9 +7,10 @@ use lib.ListN.{length}
 use Rattle.laws.specs.If.{ifLt, ifEq, lt, ge, by-lt}
 use Rattle.laws.specs.Runs.{Wrote}
 use Rattle.paper.specs.declared.Control.{Control}
-use Rattle.paper.specs.Portions.{Form}
-use Rattle.paper.specs.Dialogues.{Place, Request, done, refusal, does, peerOf, first, needsOpen, needsPeer, portionRefusal, abortPortion, abortMessage}
+use Rattle.paper.specs.Portions.{Form, aarq, aare, audt}
+use Rattle.paper.specs.Dialogues.{Place, Request, done, refusal, does, peerOf, first, needsOpen, needsPeer, uniRefusal, portionRefusal, abortPortion, abortMessage}
 use Rattle.paper.specs.Writing.{userAbortOctets}
+use Rattle.paper.specs.Dialogues.Request.{Begin, Continue, End, Unidirectional}
 use Rattle.paper.specs.Calls.{placeAt, withPlace}
 use Rattle.paper.specs.Calls.Call.{OnDialogue}
 use Rattle.paper.specs.Layout.{encode, view}
@@ -18,7 +19,7 @@ use Rattle.entry.specs.declared.Reply.{Reply}
 use Rattle.entry.specs.Replies.{reply, Told}
 use Rattle.entry.specs.Prologue.{entryAt, InDialogue, Meets}
 use Rattle.entry.specs.Ends.{Long, no-rows, space-short, dialogue-refused, dialogue-no, dialogue-done}
-use Rattle.writing_portions.specs.Forms.{formFor}
+use Rattle.writing_portions.specs.Forms.{formFor, form-2, form-3, form-5}
 use Rattle.outgoing.specs.Sent.{Holds}
 
 abbrev pub lent : List ℕ → List ℕ → Lent
@@ -92,7 +93,23 @@ module _ (x : Place) (c : Control) (e : c ≡ x .control) where
   abort-is given = ap (λ (k : Control). abortBy k given) e
 
 -- ---- the state's number, else the portion's, by the form of its PDU
-pub refusal-as : (x : Place) (kind : ℕ) (f : Form) → formFor kind ≡ f → (name info : List ℕ) (a b r : ℕ) → a ≡ b → r ≡ first a (portionRefusal x (formFor kind) name info)
-    → r ≡ first b (portionRefusal x f name info)
-refusal-as x kind f e name info a b r h g =
-    g ∙ ap (λ (k : ℕ). first k (portionRefusal x (formFor kind) name info)) h ∙ ap (λ (k : Form). first b (portionRefusal x k name info)) e
+module _ (x : Place) (name info : List ℕ) (a r : ℕ) where
+  as-form : (kind : ℕ) (f : Form) → formFor kind ≡ f → (b : ℕ) → a ≡ b → r ≡ first a (portionRefusal x (formFor kind) name info) → r ≡ first b (portionRefusal x f name info)
+  as-form kind f e b h g =
+      g ∙ ap (λ (k : ℕ). first k (portionRefusal x (formFor kind) name info)) h ∙ ap (λ (k : Form). first b (portionRefusal x k name info)) e
+
+  pub begin-number : a ≡ needsOpen x → r ≡ first a (portionRefusal x (formFor 2) name info) → r ≡ refusal x (Begin name info)
+  unfolding refusal
+  begin-number h g = as-form 2 aarq form-2 (needsOpen x) h g
+
+  pub continue-number : a ≡ needsPeer x → r ≡ first a (portionRefusal x (formFor 3) name info) → r ≡ refusal x (Continue name info)
+  unfolding refusal
+  continue-number h g = as-form 3 aare form-3 (needsPeer x) h g
+
+  pub end-number : a ≡ needsPeer x → r ≡ first a (portionRefusal x (formFor 3) name info) → r ≡ refusal x (End name info)
+  unfolding refusal
+  end-number h g = as-form 3 aare form-3 (needsPeer x) h g
+
+  pub uni-number : a ≡ uniRefusal x → r ≡ first a (portionRefusal x (formFor 5) name info) → r ≡ refusal x (Unidirectional name info)
+  unfolding refusal
+  uni-number h g = as-form 5 audt form-5 (uniRefusal x) h g

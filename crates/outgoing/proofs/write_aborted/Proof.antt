@@ -64,4 +64,3 @@ write-aborted-spec =
     copy-at-requires
     same-length-2
     returns-2)
-
