@@ -192,7 +192,7 @@ portion-part-in s start len p h q =
 pub part-short : (s : List ℕ) (start end : ℕ) → start ≤ end → end ≤ 0xFFFFFFFF → length (take (end - start) (drop start s)) ≤ 0xFFFFFFFF - start
 part-short s start end h g = let m = length-take (end - start) (drop start s) in let l = min-le-left (end - start) (length (drop start s)) in omega arith
 
--- THE KIND is one of six
+-- THE KIND, whatever octets are read: one of none, opaque, AARQ, AARE, ABRT and AUDT
 pub kind-small : (p : Portion) → portionRow p .kind < 6
 kind-small Absent = omega arith
 kind-small Opaque = omega arith

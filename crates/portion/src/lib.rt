@@ -90,6 +90,7 @@ fn value_in(l: &[u8], most: u32, f: Frame) -> u32
     v
 }
 
+// What is read so far, with the next piece at another place; 0: a piece is wrong.
 fn goes_to(w: Pdu, at: usize) -> Pdu
     ensures { λ r. ⌜ r ≡ goesTo w at ⌝ }
 {
@@ -144,6 +145,7 @@ fn name_at(l: &[u8], e: usize, w: Pdu) -> Pdu
     }
 }
 
+// The A2 holds the result, 0 or 1.
 fn result_at(l: &[u8], e: usize, w: Pdu) -> Pdu
     requires { ⌜ e ≤ length (now l) ⌝ }
     ensures { λ r. ⌜ r ≡ piece (now (l .entry)) e w Piece.Result ⌝ }
@@ -165,6 +167,7 @@ fn result_at(l: &[u8], e: usize, w: Pdu) -> Pdu
     }
 }
 
+// What is read so far, and a diagnostic.
 fn with_diagnostic(w: Pdu, v: u32, at: usize) -> Pdu
     ensures { λ r. ⌜ r ≡ withDiagnostic w v at ⌝ }
 {
@@ -199,6 +202,7 @@ fn diagnostic_at(l: &[u8], e: usize, w: Pdu) -> Pdu
     goes_to(w, 0)
 }
 
+// The abort source, 0 or 1, is an 80 of its own.
 fn source_at(l: &[u8], e: usize, w: Pdu) -> Pdu
     requires { ⌜ e ≤ length (now l) ⌝ }
     ensures { λ r. ⌜ r ≡ piece (now (l .entry)) e w Piece.Source ⌝ }
@@ -256,6 +260,7 @@ fn information_at(l: &[u8], e: usize, w: Pdu) -> Pdu
     }
 }
 
+// No piece is read yet.
 fn unread(at: usize) -> Pdu
     ensures { λ r. ⌜ r ≡ unread at ⌝ }
 {
@@ -280,6 +285,7 @@ fn request_pieces(l: &[u8], pdu: Frame) -> Pdu
     information_at(l, pdu.to, c)
 }
 
+// A dialogue request (AARQ): its pieces, and nothing after them.
 fn request(l: &[u8], pdu: Frame) -> Portion
     requires { ⌜ pdu .to ≤ length (now l) ⌝ }
     ensures { λ r. ⌜ r ≡ inForm aarq (now (l .entry)) pdu ⌝ }
@@ -293,6 +299,7 @@ fn request(l: &[u8], pdu: Frame) -> Portion
     Portion::Aarq(name, information)
 }
 
+// A unidirectional PDU (AUDT).
 fn unidirectional(l: &[u8], pdu: Frame) -> Portion
     requires { ⌜ pdu .to ≤ length (now l) ⌝ }
     ensures { λ r. ⌜ r ≡ inForm audt (now (l .entry)) pdu ⌝ }
@@ -306,6 +313,7 @@ fn unidirectional(l: &[u8], pdu: Frame) -> Portion
     Portion::Audt(name, information)
 }
 
+// A dialogue response (AARE).
 fn response(l: &[u8], pdu: Frame) -> Portion
     requires { ⌜ pdu .to ≤ length (now l) ⌝ }
     ensures { λ r. ⌜ r ≡ inForm aare (now (l .entry)) pdu ⌝ }
@@ -324,6 +332,7 @@ fn response(l: &[u8], pdu: Frame) -> Portion
     Portion::Aare(name, information, w.result, w.diagnostic)
 }
 
+// A dialogue abort (ABRT).
 fn abort(l: &[u8], pdu: Frame) -> Portion
     requires { ⌜ pdu .to ≤ length (now l) ⌝ }
     ensures { λ r. ⌜ r ≡ inForm abrt (now (l .entry)) pdu ⌝ }
@@ -360,6 +369,7 @@ fn pdu_by(l: &[u8], x: Frame, identifier: &[u8], tag: u8) -> Frame
     NO_FRAME
 }
 
+// "object identifiers 00 11 86 05 01 01 01 (structured)"
 fn structured(l: &[u8], x: Frame, tag: u8) -> Frame
     requires { ⌜ x .to ≤ length (now l) ⌝ }
     ensures is { λ r. ⌜ r ≡ pduBy (tlv 6 structured) tag (now (l .entry)) x ⌝ }
@@ -369,6 +379,7 @@ fn structured(l: &[u8], x: Frame, tag: u8) -> Frame
     pdu_by(l, x, &identifier, tag)
 }
 
+// "and 00 11 86 05 01 02 01 (unstructured)"
 fn unstructured(l: &[u8], x: Frame, tag: u8) -> Frame
     requires { ⌜ x .to ≤ length (now l) ⌝ }
     ensures is { λ r. ⌜ r ≡ pduBy (tlv 6 unstructured) tag (now (l .entry)) x ⌝ }
@@ -436,6 +447,7 @@ fn run_from(k: usize, r: Run) -> Run
     }
 }
 
+// A portion whose octets begin at k of a message.
 fn from_start(k: usize, p: Portion) -> Portion
     requires { ⌜ (k ≤ 0xFFFFFFFF) × PortionIn (0xFFFFFFFF - k) p ⌝ }
     ensures { λ r. ⌜ r ≡ fromStart k p ⌝ }
@@ -472,6 +484,7 @@ pub fn portion_at(s: &[u8], start: usize, len: usize) -> Portion
     from_start(start, p)
 }
 
+// The eight numbers of a row, of a portion's kind and parts.
 fn row(kind: u32, n: Run, i: Run, result: u32, diagnostic: u32, source: u32) -> Row
     requires { ⌜ RunIn 0xFFFFFFFF n × RunIn 0xFFFFFFFF i ⌝ }
     ensures { λ r. ⌜ r ≡ eight kind n i result diagnostic source ⌝ }
