@@ -10,7 +10,7 @@ use Rattle.paper.specs.declared.Row.{Row}
 use Rattle.paper.specs.Sizes.{leastRows}
 use Rattle.paper.specs.Portions.{portionRow, portionAt}
 use Rattle.paper.specs.Rows.{rowOctets}
-use Rattle.paper.specs.Outcome.{Lent, Outcome, portionOutcome, refusedBy}
+use Rattle.paper.specs.Outcome.{Lent, Outcome, portionOutcome}
 use Rattle.entry.specs.declared.Reply.{Reply}
 use Rattle.entry.specs.Replies.{reply, Told, told}
 

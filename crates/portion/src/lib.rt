@@ -94,16 +94,9 @@ fn value_in(l: &[u8], most: u32, f: Frame) -> u32
 fn goes_to(w: Pdu, at: usize) -> Pdu
     ensures { λ r. ⌜ r ≡ goesTo w at ⌝ }
 {
-    let name = w.name;
-    let information = w.information;
-    Pdu {
-        at,
-        name,
-        information,
-        result: w.result,
-        diagnostic: w.diagnostic,
-        source: w.source,
-    }
+    let mut v = w;
+    v.at = at;
+    v
 }
 
 // "a protocol version before the name .. is stepped over"
@@ -134,15 +127,10 @@ fn name_at(l: &[u8], e: usize, w: Pdu) -> Pdu
         start: f.from,
         length: f.to - f.from,
     };
-    let information = w.information;
-    Pdu {
-        at: f.stop,
-        name,
-        information,
-        result: w.result,
-        diagnostic: w.diagnostic,
-        source: w.source,
-    }
+    let mut v = w;
+    v.name = name;
+    v.at = f.stop;
+    v
 }
 
 // The A2 holds the result, 0 or 1.
@@ -151,36 +139,24 @@ fn result_at(l: &[u8], e: usize, w: Pdu) -> Pdu
     ensures { λ r. ⌜ r ≡ piece (now (l .entry)) e w Piece.Result ⌝ }
 {
     let f = tagged(l, 12, 0xA2, e, w.at);
-    let v = value_in(l, 1, f);
-    if v == 256 {
+    let result = value_in(l, 1, f);
+    if result == 256 {
         return goes_to(w, 0);
     }
-    let name = w.name;
-    let information = w.information;
-    Pdu {
-        at: f.stop,
-        name,
-        information,
-        result: v,
-        diagnostic: w.diagnostic,
-        source: w.source,
-    }
+    let mut v = w;
+    v.result = result;
+    v.at = f.stop;
+    v
 }
 
 // What is read so far, and a diagnostic.
-fn with_diagnostic(w: Pdu, v: u32, at: usize) -> Pdu
-    ensures { λ r. ⌜ r ≡ withDiagnostic w v at ⌝ }
+fn with_diagnostic(w: Pdu, diagnostic: u32, stop: usize) -> Pdu
+    ensures { λ r. ⌜ r ≡ withDiagnostic w diagnostic stop ⌝ }
 {
-    let name = w.name;
-    let information = w.information;
-    Pdu {
-        at,
-        name,
-        information,
-        result: w.result,
-        diagnostic: v,
-        source: w.source,
-    }
+    let mut v = w;
+    v.diagnostic = diagnostic;
+    v.at = stop;
+    v
 }
 
 // The A3 holds A1 (user) or A2 (provider).
@@ -207,20 +183,14 @@ fn source_at(l: &[u8], e: usize, w: Pdu) -> Pdu
     requires { ⌜ e ≤ length (now l) ⌝ }
     ensures { λ r. ⌜ r ≡ piece (now (l .entry)) e w Piece.Source ⌝ }
 {
-    let v = components::single(l, 0x80, e, w.at);
-    if v > 1 {
+    let source = components::single(l, 0x80, e, w.at);
+    if source > 1 {
         return goes_to(w, 0);
     }
-    let name = w.name;
-    let information = w.information;
-    Pdu {
-        at: w.at + 3,
-        name,
-        information,
-        result: w.result,
-        diagnostic: w.diagnostic,
-        source: v,
-    }
+    let mut v = w;
+    v.source = source;
+    v.at = w.at + 3;
+    v
 }
 
 // From a to b, none where b is before a.
@@ -249,15 +219,10 @@ fn information_at(l: &[u8], e: usize, w: Pdu) -> Pdu
     }
     let f = elements::frame_at(l, 12, e, w.at);
     let information = run_of(w.at, f.stop);
-    let name = w.name;
-    Pdu {
-        at: f.stop,
-        name,
-        information,
-        result: w.result,
-        diagnostic: w.diagnostic,
-        source: w.source,
-    }
+    let mut v = w;
+    v.information = information;
+    v.at = f.stop;
+    v
 }
 
 // No piece is read yet.

@@ -35,7 +35,7 @@ sub-t9 c = search needs
 
 returns-3 : tie.Need-returns-3
 unfolding nameIn
-returns-3 c = name-by _ _ _ _ _ (c .before .before .before .before .before .before .before .tagged .ensures .0) (eq _ _ _ _ (omega arith) (eq _ _ _ _ (omega arith) refl))
+returns-3 c = name-by _ _ _ _ _ (c .before .before .before .before .before .before .tagged .ensures .0) (eq _ _ _ _ (omega arith) (eq _ _ _ _ (omega arith) refl))
 
 pub name-at-spec : {M : Type 1} → statement M
 name-at-spec =

@@ -21,7 +21,7 @@ returns c = result-by _ _ _ _ _ (c .before .before .before .tagged .ensures .0) 
 
 returns-2 : tie.Need-returns-2
 unfolding resultIn
-returns-2 c = result-by _ _ _ _ _ (c .before .before .before .before .tagged .ensures .0) (ne _ _ _ _ (λ h. omega arith) (cc))
+returns-2 c = result-by _ _ _ _ _ (c .before .before .tagged .ensures .0) (ne _ _ _ _ (λ h. omega arith) (cc))
 
 pub result-at-spec : {M : Type 1} → statement M
 result-at-spec =

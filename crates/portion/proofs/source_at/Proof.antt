@@ -15,12 +15,12 @@ returns : tie.Need-returns
 unfolding piece
 returns c = lt _ _ _ _ (omega arith) (c .goes-to .ensures)
 
-add-t8 : tie.Need-add-t8
-add-t8 c = omega (arith, c .before .before .before .before .single .ensures .1 .0 (omega arith))
+add-v : tie.Need-add-v
+add-v c = omega (arith, c .before .before .single .ensures .1 .0 (omega arith))
 
 returns-2 : tie.Need-returns-2
 unfolding piece
 returns-2 c = ge _ _ _ _ (omega arith) (cc)
 
 pub source-at-spec : {M : Type 1} → statement M
-source-at-spec = tie.close (tie.spec single-requires goes-to-requires returns add-t8 returns-2)
+source-at-spec = tie.close (tie.spec single-requires goes-to-requires returns add-v returns-2)
