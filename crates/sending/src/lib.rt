@@ -106,7 +106,7 @@ fn rest_size(f: Follow) -> usize
 {
     let n = f.length;
     let m = writing_messages::components_size(n);
-    return f.portion + m;
+    f.portion + m
 }
 
 // What follows the IDs of each of the four messages: its dialogue portion, the 6C's head, what is sent.
