@@ -86,7 +86,7 @@ static void transaction(void)
     static const uint8_t operation[] = { 0x02, 0x01, 0x3B };
     need(tcap_open(TABLE, 3), TCAP_DONE);
     need(tcap_invoke(TABLE, 3, 0, 5, 1, operation, sizeof operation, TCAP_NONE), TCAP_DONE);
-    need(tcap_begin(TABLE, 3, 0, SPACE), TCAP_DONE);
+    need(tcap_begin(TABLE, 3, 0, TCAP_NONE, TCAP_NONE, SPACE), TCAP_DONE);
     receive();
 }
 
