@@ -21,6 +21,15 @@ use Rattle.readback.specs.Reading.{has-octets, id-back, id-has, derived-
 past-back : (b p n : ℕ) → 1 ≤ n → p + 2 + n ≡ past (run (p + 2) n) b
 past-back b p n some = ne n 0 b (p + 2 + n) (λ z. omega arith) refl
 
+-- after a destination ID at p: what follows it
+peer-then : (s : List ℕ) (b p n : ℕ) (D : Derived) → D .destination ≡ run (p + 2) n → 1 ≤ n → (D .tag ≡ uniTag → ⊥) → (D .tag ≡ beginTag → ⊥)
+    → portionPart s false D (p + 2 + n) ≡ inOrder s false b D
+unfolding inOrder
+peer-then s b p n D is some other begin =
+    let long : D .destination .length ≡ n = ap (λ (r : Run). r .length) is in
+    ap (portionPart s false D) (past-back b p n some ∙ ap (λ (r : Run). past r b) (sym is))
+    ∙ ne _ _ _ _ other (ne _ _ _ _ begin (ne _ _ _ _ (λ z. omega arith) refl))
+
 -- A MESSAGE of tag t whose contents begin with an ID, 48 or 49 (k), and what follows it
 record First (t k : ℕ) (id rest : List ℕ) : Type 0 where
   short : ShortTag t
@@ -66,13 +75,11 @@ module _ {t : ℕ} {peer rest : List ℕ} (f : First t 0x49 peer rest) where
 
   peer-first : knownType t ≡ true → (t ≡ uniTag → ⊥) → (t ≡ beginTag → ⊥) → noRun ≡ originOf (s f) t (b f) → idAt (s f) 0x49 (b f) ≡ destinationOf (s f) t (b f) noRun
       → (m : Message) → m ≡ portionPart (s f) false toPeer (b f + 2 + length peer) → messageOf (s f) ≡ m
-  unfolding inOrder
   peer-first known other begin first second m is =
       sym
       (outer-back t (tlv 0x49 peer ++ rest) (f .short) (f .fits) known toPeer refl
       (derived-as (s f) t (b f) noRun (run (b f + 2) (length peer)) (first-tag f) first (first-id f ∙ second))
-      (is ∙ ap (portionPart (s f) false toPeer) (past-back (b f) (b f) (length peer) (f .some))
-      ∙ ne _ _ _ _ other (ne _ _ _ _ begin (ne _ _ _ _ (λ z. omega (arith, f .some)) refl))))
+      (is ∙ peer-then (s f) (b f) (b f) (length peer) toPeer refl (f .some) other begin))
 
 -- contents are no longer than their element
 contents-fit : (t : ℕ) (c : List ℕ) → length (tlv t c) < 65536 → length c < 65536
@@ -169,7 +176,7 @@ module _ (own : List ℕ) (some : 1 ≤ length own) (few : length own ≤ 4) whe
 
   pub continue-back : (peer : List ℕ) → 1 ≤ length peer → length peer ≤ 4 → (portion : List ℕ) → isPortion portion ≡ true → (cs : List ℕ)
       → length (continueOctets own peer portion cs) < 65536 → Back (continueOctets own peer portion cs) (readContinue own peer portion cs) own peer portion cs
-  unfolding continueOctets knownType originOf destinationOf inOrder
+  unfolding continueOctets knownType originOf destinationOf
   continue-back peer least most portion formed cs h =
       let after : List ℕ = portion ++ componentsOctets cs in
       let rest : List ℕ = tlv 0x49 peer ++ after in
@@ -198,8 +205,7 @@ module _ (own : List ℕ) (some : 1 ≤ length own) (few : length own ≤ 4) whe
             (sym (ne _ _ _ _ (λ z. omega arith) (ne _ _ _ _ (λ z. omega arith) (ne _ _ _ _ (λ z. omega arith) (eq _ _ _ _ refl refl))))) D refl
             (derived-as (s f) continueTag (b f) o d (first-tag f) first second)
             (rest-part portion cs has whole fits formed D (λ z. omega arith) (λ _ z. omega arith)
-            ∙ ap (portionPart (s f) false D) (past-back (b f) p (length peer) least)
-            ∙ ne _ _ _ _ (λ z. omega arith) (ne _ _ _ _ (λ z. omega arith) (ne _ _ _ _ (λ z. omega arith) refl))));
+            ∙ peer-then (s f) (b f) p (length peer) D refl least (λ z. omega arith) (λ z. omega arith)));
         origin = first-octets f;
         destination = has-octets (id-has 0x49 peer h49 least most (omega arith)) (omega arith);
         portion = rest-portion portion cs has whole fits formed;

@@ -1,4 +1,4 @@
--- Messages as they were written, read: their outer element, IDs in order, then a portion or components. Assumes nothing.
+-- Messages as they were written, read: their outer element, IDs in order, then a dialogue portion and components. Assumes nothing.
 use native.Mathlib.Omega.{arith}
 use native.Mathlib.Nat.{add-zero}
 use Prim.Native.Nat.{ℕ, suc, _+_, _-_, _%_, _<_, _≤_}
@@ -136,7 +136,7 @@ module _ {s : List ℕ} {p : ℕ} (cs : List ℕ) (has : Has s p (componentsOcte
       (λ z _. let w = some-stands z in let tag = octet-in s p 0x6C (omega arith) (octet-back (w .0)) in omega arith)
 
   module _ (r : Run) (D : Derived) where
-    none-part : (D .tag ≡ uniTag → ⊥) → length cs ≡ 0 → soundOf D r (fromOf (length s) (length cs)) (toOf (length s) (length cs)) noProblem ≡ componentsPart s false D r p
+    none-part : (D .tag ≡ uniTag → ⊥) → length cs ≡ 0 → withComponents s r cs D ≡ componentsPart s false D r p
     unfolding componentsPart
     none-part other z =
         let out = octet-out s p (none-out z) in
@@ -145,7 +145,7 @@ module _ {s : List ℕ} {p : ℕ} (cs : List ℕ) (has : Has s p (componentsOcte
         ∙ closed s p D (soundOf D r 0 0 noProblem) (none-out z)
         ∙ ne _ _ _ _ (λ y. omega arith) (ne _ _ _ _ other refl)
 
-    some-part : (length cs ≡ 0 → ⊥) → soundOf D r (fromOf (length s) (length cs)) (toOf (length s) (length cs)) noProblem ≡ componentsPart s false D r p
+    some-part : (length cs ≡ 0 → ⊥) → withComponents s r cs D ≡ componentsPart s false D r p
     unfolding componentsPart componentsBy
     some-part z =
         let n : ℕ = length cs in
@@ -159,7 +159,7 @@ module _ {s : List ℕ} {p : ℕ} (cs : List ℕ) (has : Has s p (componentsOcte
         ∙ ap (componentsBy s false D r) (frame-back (w .0) refl (suc depths))
         ∙ eq _ _ _ _ (sym tag) refl
 
-    components-part : (length cs ≡ 0 → D .tag ≡ uniTag → ⊥) → soundOf D r (fromOf (length s) (length cs)) (toOf (length s) (length cs)) noProblem ≡ componentsPart s false D r p
+    components-part : (length cs ≡ 0 → D .tag ≡ uniTag → ⊥) → withComponents s r cs D ≡ componentsPart s false D r p
     components-part other = by-eq {A = ℕ} (length cs) 0 0 0 refl (λ z _. none-part (other z) z) (λ z _. some-part z)
 
   -- they stand there
@@ -204,10 +204,10 @@ module _ {s : List ℕ} {p : ℕ} (portion cs : List ℕ) (has : Has s p (portio
   rest-fits : length cs < 65536
   rest-fits = omega (arith, ap length (components-joined cs), length-append (componentsHead (length cs)) cs, length-append portion (componentsOctets cs))
 
-  pub rest-part : (D : Derived) → (D .tag ≡ abortTag → ⊥) → (length cs ≡ 0 → D .tag ≡ uniTag → ⊥) → withComponents s p portion cs D ≡ portionPart s false D p
+  pub rest-part : (D : Derived) → (D .tag ≡ abortTag → ⊥) → (length cs ≡ 0 → D .tag ≡ uniTag → ⊥) → withComponents s (runAt p portion) cs D ≡ portionPart s false D p
   unfolding portionPart
   rest-part D other needs =
-      let all : withComponents s p portion cs D ≡ componentsPart s false D (runAt p portion) (p + length portion) =
+      let all : withComponents s (runAt p portion) cs D ≡ componentsPart s false D (runAt p portion) (p + length portion) =
       components-part cs rest-has rest-whole rest-fits (runAt p portion) D needs in
       by-eq {A = ℕ} (length portion) 0 0 0 refl
       (λ z _.
