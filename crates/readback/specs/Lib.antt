@@ -9,3 +9,5 @@ pub mod Order
 pub mod Places
 pub mod ReadBack
 pub mod Contents
+pub mod Pdus
+pub mod Spoken
