@@ -10,4 +10,5 @@ pub mod Places
 pub mod ReadBack
 pub mod Contents
 pub mod Pdus
+pub mod Shells
 pub mod Spoken
