@@ -1,120 +1,30 @@
 -- A DIALOGUE PDU'S PIECES (02 a), read where they were written. Assumes nothing.
 use native.Mathlib.Omega.{arith}
-use native.Mathlib.Nat.{add-zero, add-assoc}
-use Prim.Native.Nat.{ℕ, _+_, _-_, _/_, _%_, _<_, _≤_}
+use native.Mathlib.Nat.{add-zero}
+use Prim.Native.Nat.{ℕ, _+_, _-_, _/_, _%_, _≤_}
 use mathlib.Core.Path.{_≡_, refl, sym, _∙_, ap, subst}
 use mathlib.Core.Bool.{true}
 use mathlib.Core.Logic.{_⊎_, ⊎-elim}
 use mathlib.Core.List.{List, [], _∷_, _++_}
-use lib.ListN.{length, getD, take, drop, length-append, length-take, length-drop, List·getD-append}
-use lib.Seq.{ext-getD, getD-take, getD-drop}
-use Rattle.laws.specs.If.{ifEq, lt, ge, eq, ne, by-eq, was-eq, either-eq, true-false}
-use Rattle.paper.specs.declared.Reading.the-variants.{Ends}
-use Rattle.paper.specs.declared.Head.the-variants.{Whole}
-use Rattle.paper.specs.declared.Frame.{Frame}
+use lib.ListN.{length, getD, take, drop, length-append, List·getD-append}
+use Rattle.laws.specs.If.{ifEq, lt, ge, eq, ne, by-eq, was-eq, true-false}
 use Rattle.paper.specs.declared.Pdu.{Pdu}
-use Rattle.paper.specs.Elements.{constructor, element, frameAt, noFrame, isElement}
-use Rattle.paper.specs.Components.{noID, single, codeEnd, tagAt}
+use Rattle.paper.specs.Elements.{constructor, frameAt, noFrame, isElement}
+use Rattle.paper.specs.Components.{noID, single, tagAt}
 use Rattle.paper.specs.Dialogues.{isName, isBlock, isInformation}
-use Rattle.paper.specs.Writing.{lengthOctets, tlv}
-use Rattle.paper.specs.Portions.{Parts, Piece, pieceOctets, piecesOctets, tagged, only, valueIn, goesTo, withName, withInformation, withResult, withDiagnostic, withSource, nameIn, resultIn, diagnosticIn, piece, allPieces, runIn}
-use Rattle.elements.specs.Steps.{by-head}
+use Rattle.paper.specs.Writing.{tlv}
+use Rattle.paper.specs.Portions.{Parts, Piece, pieceOctets, piecesOctets, tagged, only, valueIn, withName, withInformation, withResult, withDiagnostic, withSource, nameIn, resultIn, diagnosticIn, piece, allPieces, runIn}
 use Rattle.writing.specs.Lengths.{element-length}
-use Rattle.readback.specs.Standing.{Has, has-first, has-rest, has-head, has-as, has-at, ShortTag, Parts as Elements, done, more, begins, ends, Stands, octet-back, given-back, contents-back, whole-head, holds-back, frame-back}
+use Rattle.readback.specs.Standing.{Has, has-first, ShortTag, Parts as Elements, done, more, begins, ends, Stands, contents-back}
 use Rattle.readback.specs.Given.{Code, code-told, code-copied, code-element, element-copied, ends-frame}
 use Rattle.readback.specs.Pieces.{single-back, single-element}
-
--- the octets of a run are those that stand there
-pub has-run : {s vs : List ℕ} {p : ℕ} → Has s p vs → p + length vs ≤ length s → take (length vs) (drop p s) ≡ vs
-has-run {s} {vs} {p} has room =
-    let n : length (take (length vs) (drop p s)) ≡ length vs = simp (length-take, length-drop) (omega arith) in
-    ext-getD 0 (take (length vs) (drop p s)) vs n
-    (λ i h. getD-take (length vs) (drop p s) i 0 (omega arith) ∙ getD-drop p s i 0 ∙ has .octet i (omega arith))
+use Rattle.readback.specs.Reading.{has-octets}
+use Rattle.readback.specs.Upto.{Upto, upto-rest, upto-tag, upto-stands, around, tagged-back, only-other, only-back, holds-more, inner-stands}
 
 -- no octets
 pub empty : (l : List ℕ) → length l ≡ 0 → [] ≡ l
 empty [] z = refl
 empty (x ∷ l) z = absurd (omega arith)
-
--- OCTETS THAT STAND IN l UP TO e
-pub record Upto (l : List ℕ) (e at : ℕ) (vs : List ℕ) : Type 0 where
-  pub has : Has l at vs
-  pub whole : at + length vs ≡ e
-  pub inside : e ≤ length l
-  pub few : length l < 65536
-
-module _ {l : List ℕ} {e at : ℕ} where
-  pub upto-rest : (xs ys : List ℕ) → Upto l e at (xs ++ ys) → Upto l e (at + length xs) ys
-  upto-rest xs ys u = record {
-    has = has-rest xs ys (u .has);
-    whole = omega (arith, u .whole, length-append xs ys);
-    inside = u .inside;
-    few = u .few;
-  }
-
-  -- the tag there
-  pub upto-tag : (vs : List ℕ) → Upto l e at vs → getD vs 0 0 ≡ tagAt l e at
-  unfolding tagAt
-  upto-tag [] u = ge _ _ _ _ (omega (arith, u .whole)) refl
-  upto-tag (v ∷ vs) u = lt _ _ _ _ (omega (arith, u .whole)) (sym (has-head (u .has)))
-
-  -- a written element, with others after it
-  pub upto-stands : (t : ℕ) (c rest : List ℕ) → Upto l e at (tlv t c ++ rest) → ShortTag t → Stands l e at t c
-  upto-stands t c rest u short =
-      let n = element-length t c in
-      let m = length-append (tlv t c) rest in
-      record { has = has-first (tlv t c) rest (u .has); short = short; fits = omega (arith, u .whole, u .inside, u .few); room = omega (arith, u .whole) }
-
--- a written primitive
-pub whole-back : {s : List ℕ} {lim at t : ℕ} {c : List ℕ} → Stands s lim at t c → constructor t ≡ 0 → (d : ℕ) → (d ≡ 0 → ⊥) → Ends (ends at (length c)) ≡ element s d lim at
-whole-back {s} {lim} {at} {t} {c} w prim d deep =
-    by-head s d lim at (Whole (ends at (length c))) deep
-    (whole-head s lim at t (begins at (length c)) (length c) (w .short) (octet-back w) (omega (arith, w .room)) (given-back w) (w .room) prim)
-
--- the frame of a written constructor
-abbrev pub around : ℕ → ℕ → Frame
-around b e = record { from = b; to = e; stop = e }
-
-module _ {s : List ℕ} {lim at t : ℕ} {c : List ℕ} (w : Stands s lim at t c) where
-  tag-back : t ≡ tagAt s lim at
-  unfolding tagAt
-  tag-back = lt _ _ _ _ (omega (arith, w .room)) (sym (octet-back w))
-
-  pub tagged-back : constructor t ≡ 1 → (d : ℕ) → around (begins at (length c)) (ends at (length c)) ≡ tagged s d t lim at
-  unfolding tagged
-  tagged-back cons d = eq _ _ _ _ (sym tag-back) (frame-back w cons d)
-
-  -- none of another tag
-  pub tagged-other : (d x : ℕ) → (t ≡ x → ⊥) → noFrame ≡ tagged s d x lim at
-  unfolding tagged
-  tagged-other d x h = ne _ _ _ _ (λ z. h (tag-back ∙ z)) refl
-
-  pub only-other : (d x : ℕ) → (t ≡ x → ⊥) → noFrame ≡ only s d x lim at
-  unfolding only
-  only-other d x h = let z = tagged-other d x h in either-eq _ _ _ _ z refl
-
-  pub only-back : constructor t ≡ 1 → (d : ℕ) → ends at (length c) ≡ lim → around (begins at (length c)) lim ≡ only s d t lim at
-  unfolding only
-  only-back cons d last =
-      let z = tagged-back cons d in
-      eq _ _ _ _ (sym (ap (λ (f : Frame). f .stop) z) ∙ last) (ap (around (begins at (length c))) (sym last) ∙ z)
-
-  -- as an element, before others; where it holds elements, and where it is a primitive
-  pub holds-more : constructor t ≡ 1 → (d : ℕ) → (d ≡ 0 → ⊥) → Elements s (d - 1) (ends at (length c)) (begins at (length c)) → Elements s d lim (at + length (tlv t c)) → Elements s d lim at
-  holds-more cons d deep parts rest =
-      let z : at + length (tlv t c) ≡ ends at (length c) = omega (arith, element-length t c) in
-      more (holds-back w cons d deep parts) (subst (Elements s d lim) z rest)
-
-  pub whole-more : constructor t ≡ 0 → (d : ℕ) → (d ≡ 0 → ⊥) → Elements s d lim (at + length (tlv t c)) → Elements s d lim at
-  whole-more prim d deep rest =
-      let z : at + length (tlv t c) ≡ ends at (length c) = omega (arith, element-length t c) in
-      more (whole-back w prim d deep) (subst (Elements s d lim) z rest)
-
-  -- the element in one
-  pub inner-stands : (u : ℕ) (k : List ℕ) → c ≡ tlv u k → ShortTag u → Stands s (ends at (length c)) (begins at (length c)) u k
-  inner-stands u k is short =
-      let n = ap length is ∙ element-length u k in
-      record { has = has-as (contents-back w) is; short = short; fits = omega (arith, w .fits); room = omega arith }
 
 -- WHAT IS GIVEN: a name and information that are some
 pub name-told : (l : List ℕ) → isName l ≡ true → (length l ≡ 0 → ⊥) → (getD l 0 0 ≡ 6) × Code l
@@ -234,7 +144,7 @@ module _ {l : List ℕ} {e : ℕ} {w : Pdu} {p : Parts} (rest : List ℕ) where
       ∙ ap (nameIn l w) f)
       (omega (arith, ap length full, element-length 0xA1 name))
       (ap (λ (o : List ℕ). taking Piece.Name (record { name = o; information = []; result = 0; diagnostic = 0; source = 0 }) (seen l w))
-      (sym (has-run has (omega (arith, s .room, u .inside))) ∙ ap (λ (k : ℕ). take k (drop b l)) long))
+      (sym (has-octets has (omega (arith, s .room, u .inside))) ∙ ap (λ (k : ℕ). take k (drop b l)) long))
 
   took-result : Upto l e (w .at) (pieceOctets Piece.Result p ++ rest) → p .result ≤ 1 → Took l e w Piece.Result p
   unfolding piece pieceOctets taking resultIn
@@ -306,7 +216,7 @@ module _ {l : List ℕ} {e : ℕ} {w : Pdu} {p : Parts} (rest : List ℕ) where
       refl
       (sym (ne n 0 (seen l w) (informed p (seen l w)) some refl)
       ∙ ap (λ (o : List ℕ). informed (record { name = []; information = o; result = 0; diagnostic = 0; source = 0 }) (seen l w))
-      (sym (has-run has (omega (arith, room, u .inside))) ∙ ap (λ (k : ℕ). take k (drop at l)) long))
+      (sym (has-octets has (omega (arith, room, u .inside))) ∙ ap (λ (k : ℕ). take k (drop at l)) long))
 
 -- ANY PIECE
 pub piece-took : {l : List ℕ} {e : ℕ} {w : Pdu} {p : Parts} (k : Piece) (rest : List ℕ) → Upto l e (w .at) (pieceOctets k p ++ rest) → Formed k p → Told k p rest → Took l e w k p

@@ -1,29 +1,21 @@
 -- THE ELEMENTS AROUND A DIALOGUE PDU (02 a), read where they were written. Assumes nothing.
 use native.Mathlib.Omega.{arith}
 use native.Mathlib.Nat.{add-zero, zero-add}
-use Prim.Native.Nat.{ℕ, zero, suc, _+_, _-_, _/_, _%_, _<_, _≤_}
+use Prim.Native.Nat.{ℕ, zero, suc, _+_, _<_, _≤_}
 use mathlib.Core.Path.{_≡_, refl, sym, _∙_, ap, subst}
 use mathlib.Core.Bool.{true, false}
-use mathlib.Core.Logic.{_⊎_, inl, inr}
 use mathlib.Core.List.{List, [], _∷_, _++_}
 use lib.ListN.{length, getD, length-append}
 use borrow.Author.Tests.{eq-eqb}
-use Rattle.laws.specs.If.{ifEq, lt, ge, eq, ne, yes, no, by-eq, either-lt, either-eq}
-use Rattle.paper.specs.declared.Reading.{Reading}
+use Rattle.laws.specs.If.{lt, eq, ne, yes, no, either-lt, either-eq}
 use Rattle.paper.specs.declared.Reading.the-variants.{Ends}
 use Rattle.paper.specs.declared.Frame.{Frame}
-use Rattle.paper.specs.declared.Pdu.{Pdu}
-use Rattle.paper.specs.declared.Portion.{Portion}
-use Rattle.paper.specs.declared.Portion.the-variants.{Absent, Opaque}
 use Rattle.paper.specs.Sizes.{depths}
-use Rattle.paper.specs.Elements.{constructor, element, frameAt, noFrame, endsAt, isElement}
-use Rattle.paper.specs.Dialogues.{isName, isBlock, isInformation, isPortion, isAbort, abortPortion}
-use Rattle.paper.specs.Ledger.{abortSpoken}
+use Rattle.paper.specs.Elements.{constructor, element, noFrame, endsAt, isElement}
 use Rattle.paper.specs.Writing.{tlv}
-use Rattle.paper.specs.Portions.{structured, unstructured, noValue, Parts, Form, plain, accepts, aborts, aarq, aare, abrt, audt, forms, piecesOctets, portionOctets, portionBy, only, standsAt, unread, allPieces, external, pduOf, inForm, readBy, portionOf, Spoken, partsIn, spokenIn, spokenBy}
-use Rattle.writing.specs.Lengths.{element-length}
-use Rattle.readback.specs.Standing.{Has, has-all, has-head, has-tail, has-first, ShortTag, Parts as Elements, done, begins, ends, Stands, octet-back, contents-back, frame-back, holds-back}
-use Rattle.readback.specs.Pdus.{Upto, upto-rest, upto-stands, around, only-back, only-other, holds-more, whole-more, empty, seen, informed, taking, AllFormed, AllTold, takingAll, pieces-parts, pieces-took}
+use Rattle.paper.specs.Portions.{Form, only, standsAt, external, pduOf}
+use Rattle.readback.specs.Standing.{Has, has-all, has-head, has-tail, has-first, ShortTag, Parts as Elements, begins, ends, Stands, octet-back, holds-back}
+use Rattle.readback.specs.Upto.{Upto, upto-rest, upto-stands, around, only-other, whole-more, one-ends, one-stands, one-inner, one-frame, one-only, one-parts}
 
 -- octets that stand somewhere, and others than stand there
 pub stands-yes : {l : List ℕ} {p : ℕ} (e : ℕ) (vs : List ℕ) → Has l p vs → p + length vs ≤ e → true ≡ standsAt l e p vs
@@ -38,28 +30,6 @@ stands-no l e p (v ∷ vs) zero h other = either-lt _ _ _ _ (ne _ _ _ _ (λ z. o
 stands-no l e p (v ∷ vs) (suc i) h other =
     let k : p + 1 + i ≡ p + suc i = omega arith in
     either-lt _ _ _ _ (either-eq _ _ _ _ (stands-no l e (p + 1) vs i (omega arith) (λ z. other (ap (λ (k : ℕ). getD l k 0) (sym k) ∙ z))) refl) refl
-
--- ONE ELEMENT UP TO e: its frame, and what it holds
-module _ {l : List ℕ} {e at : ℕ} (t : ℕ) (c : List ℕ) (u : Upto l e at (tlv t c)) (short : ShortTag t) where
-  pub one-ends : ends at (length c) ≡ e
-  one-ends = omega (arith, u .whole, element-length t c)
-
-  pub one-stands : Stands l e at t c
-  one-stands = record { has = u .has; short = short; fits = omega (arith, one-ends, u .inside, u .few); room = omega (arith, one-ends) }
-
-  pub one-inner : Upto l e (begins at (length c)) c
-  one-inner = record { has = contents-back one-stands; whole = one-ends; inside = u .inside; few = u .few }
-
-  module _ (cons : constructor t ≡ 1) where
-    pub one-frame : (d : ℕ) → around (begins at (length c)) e ≡ frameAt l d e at
-    one-frame d = ap (around (begins at (length c))) (sym one-ends) ∙ frame-back one-stands cons d
-
-    pub one-only : (d : ℕ) → around (begins at (length c)) e ≡ only l d t e at
-    one-only d = only-back one-stands cons d one-ends
-
-    pub one-parts : (d : ℕ) → (d ≡ 0 → ⊥) → Elements l (d - 1) e (begins at (length c)) → Elements l d e at
-    one-parts d deep parts =
-        holds-more one-stands cons d deep (subst (λ (x : ℕ). Elements l (d - 1) x (begins at (length c))) (sym one-ends) parts) (done (u .whole))
 
 -- THE SHELL: object identifier and A0, in the A0 the PDU
 abbrev pub core : List ℕ → ℕ → List ℕ → List ℕ

@@ -1,16 +1,15 @@
 -- A DIALOGUE PORTION THAT WAS WRITTEN IS READ BACK as what was put in (02 a). Assumes nothing.
 use native.Mathlib.Omega.{arith}
 use Prim.Native.Nat.{ℕ, _+_, _<_, _≤_}
-use mathlib.Core.Path.{_≡_, refl, sym, _∙_, ap, subst}
-use mathlib.Core.Bool.{true, false}
+use mathlib.Core.Path.{_≡_, refl, sym, _∙_, ap}
+use mathlib.Core.Bool.{true}
 use mathlib.Core.Logic.{inl}
 use mathlib.Core.List.{List, [], _∷_, _++_}
 use lib.ListN.{length, getD}
-use Rattle.laws.specs.If.{ifEq, eq, ne, yes, by-eq, either-eq}
+use Rattle.laws.specs.If.{eq, ne, yes, by-eq, either-eq}
 use Rattle.paper.specs.declared.Frame.{Frame}
 use Rattle.paper.specs.declared.Pdu.{Pdu}
 use Rattle.paper.specs.declared.Portion.{Portion}
-use Rattle.paper.specs.declared.Portion.the-variants.{Absent, Opaque}
 use Rattle.paper.specs.Sizes.{depths}
 use Rattle.paper.specs.Elements.{noFrame, isElement}
 use Rattle.paper.specs.Dialogues.{isName, isBlock, isInformation, isPortion, isAbort, abortPortion}
@@ -19,8 +18,10 @@ use Rattle.paper.specs.Writing.{tlv}
 use Rattle.paper.specs.Portions.{structured, unstructured, noValue, Parts, Piece, Form, plain, accepts, aborts, aarq, aare, abrt, audt, forms, pieceOctets, piecesOctets, portionOctets, portionBy, unread, allPieces, external, pduOf, inForm, readBy, portionOf, Spoken, partsIn, spokenIn, spokenBy}
 use Rattle.writing.specs.Lengths.{element-length, id-of}
 use Rattle.readback.specs.Standing.{begins}
-use Rattle.readback.specs.Pdus.{Upto, around, empty, seen, informed, taking, AllFormed, AllTold, takingAll, pieces-parts, pieces-took}
-use Rattle.readback.specs.Shells.{core, Holding, one-inner, pduAt, pdu, core-parts, form-other, form-tag, form-own, coreAt, inmost, external-back, octets-first, octets-formed}
+use Rattle.readback.specs.Pdus.{empty, seen, informed, taking, AllFormed, AllTold, takingAll, pieces-parts, pieces-took}
+use Rattle.readback.specs.Shells.{core, Holding, pduAt, pdu, core-parts, form-other, form-tag, form-own, coreAt, inmost, external-back, octets-first, octets-formed}
+use Rattle.readback.specs.Contents.{silent}
+use Rattle.readback.specs.Upto.{Upto, around, one-inner}
 
 -- A FORM IS FOUND in the list: those before it don't fit
 module _ (l : List ℕ) (x : Frame) (is : x ≡ external l) (g : Form) (gs : List Form) where
@@ -91,8 +92,8 @@ addressed p = plain (p .name) (p .information)
 abbrev pub answered : Parts → Parts
 answered p = record { name = p .name; information = p .information; result = p .result; diagnostic = p .diagnostic; source = noValue }
 
-abbrev pub broken : Parts → Parts
-broken p = record { name = []; information = p .information; result = noValue; diagnostic = noValue; source = p .source }
+abbrev pub aborted : Parts → Parts
+aborted p = record { name = []; information = p .information; result = noValue; diagnostic = noValue; source = p .source }
 
 -- A FORM OF OURS: it is found; it says those parts, and takes them from nothing on; a well-formed name and information make well-formed
 -- pieces
@@ -136,7 +137,7 @@ ours-aare = record {
   formed = λ name info n i. (tt, (n, (tt, (inl refl, (i, tt)))));
 }
 
-pub ours-abrt : Ours abrt broken
+pub ours-abrt : Ours abrt aborted
 unfolding takingAll taking
 ours-abrt = record {
   holding = holding-64;
@@ -230,10 +231,6 @@ one-portion : (l : List ℕ) → getD l 0 0 ≡ 0x6B → isElement depths l ≡ 
 unfolding isPortion
 one-portion l first formed = sym (either-eq _ _ _ _ refl (eq _ _ _ _ first (sym formed)))
 
-none-spoken : Spoken.Silent ≡ spokenIn []
-unfolding spokenIn portionOf
-none-spoken = ap (partsIn []) (ne _ _ _ _ (λ z. omega arith) refl)
-
 module _ {f : Form} {shown : Parts → Parts} (o : Ours f shown) (name info : List ℕ) (n : isName name ≡ true) (i : isInformation info ≡ true) (few : length (portionBy f name info) ≤ 240) where
   pub portion-formed : isPortion (portionBy f name info) ≡ true
   portion-formed =
@@ -249,7 +246,7 @@ module _ {f : Form} {shown : Parts → Parts} (o : Ours f shown) (name info : Li
       → spokenIn (portionBy f name info) ≡ spokenBy f name info
   given-spoken all told =
       by-eq {A = ℕ} (length name + length info) 0 0 0 refl
-      (λ z _. let w = none-by f name info z in sym (ap spokenIn (w .0)) ∙ sym none-spoken ∙ w .1)
+      (λ z _. let w = none-by f name info z in sym (ap spokenIn (w .0)) ∙ silent ∙ w .1)
       (λ z _.
       let w = some-by f name info z in
       let p : Parts = f .puts name info in
