@@ -35,7 +35,7 @@ module _ (l : List ℕ) (x : Frame) (is : x ≡ external l) (g : Form) (gs : Lis
       let z = one ∙ ap (pduOf g l) is in
       ne _ _ _ _ (λ y. some (ap (λ (f : Frame). f .stop) z ∙ y)) (ap (inForm g l) z)
 
--- where the contents of a form's PDU begin
+-- where the contents of a form's PDU begin; there its pieces are read
 abbrev pub piecesAt : (f : Form) (l : List ℕ) (y : ℕ) (c : List ℕ) → Upto l (length l) y (core (f .identifier) (f .tag) c) → ℕ
 piecesAt f l y c u = begins (pduAt (f .identifier) (f .tag) c u) (length c)
 
@@ -157,7 +157,7 @@ ours-audt = record {
   formed = λ name info n i. (tt, (n, (i, tt)));
 }
 
--- OF ANY PARTS that the form shows, and whose pieces are well formed
+-- OF ANY PARTS that the form shows and whose pieces are well formed: other values than those that we write too
 module _ {f : Form} {shown : Parts → Parts} (o : Ours f shown) (p : Parts) (few : length (portionOctets f p) < 65536) (formed : AllFormed (f .pieces) p) where
   inner : List ℕ
   inner = piecesOctets (f .pieces) p
@@ -270,10 +270,11 @@ module _ (name info : List ℕ) (n : isName name ≡ true) (i : isInformation in
   is-named : (length name + length info ≡ 0 → ⊥) → length name ≡ 0 → ⊥
   is-named some z = some (omega (arith, z, named z))
 
+  asking-told : (length name + length info ≡ 0 → ⊥) → AllTold (Piece.Version ∷ Piece.Name ∷ Piece.Information ∷ []) (plain name info)
+  asking-told some = (not-version (Piece.Information ∷ []) (plain name info) (is-named some), (is-named some, ((λ _. not-after (plain name info)), tt)))
+
   pub aarq-spoken : length (portionBy aarq name info) ≤ 240 → spokenIn (portionBy aarq name info) ≡ spokenBy aarq name info
-  aarq-spoken few =
-      given-spoken ours-aarq name info n i few refl
-      (λ some. (not-version (Piece.Information ∷ []) (plain name info) (is-named some), (is-named some, ((λ _. not-after (plain name info)), tt))))
+  aarq-spoken few = given-spoken ours-aarq name info n i few refl asking-told
 
   pub aare-spoken : length (portionBy aare name info) ≤ 240 → spokenIn (portionBy aare name info) ≡ spokenBy aare name info
   aare-spoken few =
@@ -284,9 +285,7 @@ module _ (name info : List ℕ) (n : isName name ≡ true) (i : isInformation in
       ))
 
   pub audt-spoken : length (portionBy audt name info) ≤ 240 → spokenIn (portionBy audt name info) ≡ spokenBy audt name info
-  audt-spoken few =
-      given-spoken ours-audt name info n i few refl
-      (λ some. (not-version (Piece.Information ∷ []) (plain name info) (is-named some), (is-named some, ((λ _. not-after (plain name info)), tt))))
+  audt-spoken few = given-spoken ours-audt name info n i few refl asking-told
 
 -- ABORT: user information alone
 no-name : isName [] ≡ true
