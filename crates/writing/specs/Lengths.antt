@@ -10,7 +10,7 @@ use Rattle.laws.specs.Runs.{Wrote, wrote-more, wrote-as}
 use Rattle.paper.specs.Problems.{senderOf, senderOfProblem, byNobody}
 use Rattle.paper.specs.Components.{invokeTag, errorTag, rejectTag, noID}
 use Rattle.paper.specs.Writing.{lengthOctets, tlv, idThen, linkedThen, invokeOctets, resultOctets, errorOctets, problemOctets, rejectOctets}
-use Rattle.writing.specs.Heads.{elementHead, componentsHead, messageHead}
+use Rattle.writing.specs.Heads.{elementHead, componentsHead, frontHead}
 
 -- a space has room for so many octets at a position, and a length can say how many
 abbrev pub Room : List ℕ → ℕ → ℕ → Type 0
@@ -19,10 +19,6 @@ Room space at n = (n < 65536) × (at + n ≤ length space)
 -- an element whose contents are n octets
 abbrev pub elementSize : ℕ → ℕ
 elementSize n = 1 + length (lengthOctets n) + n
-
--- a message whose IDs take so many octets and whose components n
-abbrev pub messageSize : ℕ → ℕ → ℕ
-messageSize ids n = elementSize (ids + (length (componentsHead n) + n))
 
 unfoldable pub invokeSize : ℕ → List ℕ → List ℕ → ℕ
 invokeSize linked op par = ifEq linked noID (elementSize (3 + length op + length par)) (elementSize (6 + length op + length par))
@@ -61,6 +57,9 @@ module _ (n : ℕ) where
       by-lt {A = ℕ} n 128 0 0 refl (λ h _. omega (arith, ap length (length-one h)))
       (λ g _. by-lt {A = ℕ} n 256 0 0 refl (λ h _. omega (arith, ap length (length-two g h))) (λ h _. omega (arith, ap length (length-three h))))
 
+  pub element-small : (n + 2 ≤ elementSize n) × (elementSize n ≤ n + 4)
+  element-small = (omega (arith, length-small), omega (arith, length-small))
+
   pub short-size : n < 128 → elementSize n ≡ 2 + n
   short-size h = omega (arith, ap length (length-one h))
 
@@ -87,22 +86,15 @@ module _ (n : ℕ) where
   components-small =
       by-eq {A = ℕ} n 0 0 0 refl (λ h _. omega (arith, ap length (no-components h))) (λ h _. omega (arith, ap length (some-components h), length-small n))
 
-pub message-small : (ids n : ℕ) → messageSize ids n ≤ ids + n + 8
-message-small ids n = omega (arith, components-small n, length-small (ids + (length (componentsHead n) + n)))
+-- a message's front: tag and length, then the IDs
+pub front-wrote : {l x o : List ℕ} {at p q : ℕ} {ids : List ℕ} (tag k m : ℕ) → Wrote l at (elementHead tag (k + m)) p x → Wrote x p ids q o
+    → k ≡ length ids → Wrote l at (frontHead tag ids m) q o
+unfolding frontHead
+front-wrote {ids = ids} tag k m a b h = wrote-as (wrote-more a refl b) (ap (λ (k : ℕ). elementHead tag (k + m) ++ ids) h)
 
--- a message's head, of tag and length, IDs and the 6C's head
-pub head-wrote : {l m o x : List ℕ} {at p q r : ℕ} {ids : List ℕ} (tag k n : ℕ) → Wrote l at (elementHead tag (k + (length (componentsHead n) + n))) p m
-    → Wrote m p ids q o → Wrote o q (componentsHead n) r x → k ≡ length ids → Wrote l at (messageHead tag ids n) r x
-unfolding messageHead
-head-wrote {ids = ids} tag k n a b d h =
-    wrote-as (wrote-more a refl (wrote-more b refl d))
-    (ap (λ (k : ℕ). elementHead tag (k + (length (componentsHead n) + n)) ++ (ids ++ componentsHead n)) h)
-
-pub message-length : (tag : ℕ) (ids : List ℕ) (n : ℕ) → length (messageHead tag ids n) + n ≡ messageSize (length ids) n
-unfolding messageHead
-message-length tag ids n =
-    let k : ℕ = length ids + (length (componentsHead n) + n) in
-    omega (arith, length-append (elementHead tag k) (ids ++ componentsHead n), length-append ids (componentsHead n))
+pub front-length : (tag : ℕ) (ids : List ℕ) (m : ℕ) → length (frontHead tag ids m) + m ≡ elementSize (length ids + m)
+unfolding frontHead
+front-length tag ids m = omega (arith, length-append (elementHead tag (length ids + m)) ids)
 
 pub id-length : (tag : ℕ) (id : List ℕ) → length id < 128 → length (tlv tag id) ≡ 2 + length id
 id-length tag id h = element-length tag id ∙ short-size (length id) h
