@@ -1,12 +1,14 @@
 // The messages written (01, "Coding"): into a lent space, at a position; each answers the position past it.
 ghost use mathlib.Core.Path.{_≡_};
 ghost use Prim.Native.Nat.{_+_, _-_, _<_, _≤_};
+ghost use mathlib.Core.List.{[], _++_};
 ghost use lib.ListN.{length, take};
 ghost use Rattle.laws.specs.Runs.{Wrote};
 ghost use Rattle.paper.specs.Sizes.{idOctets};
-ghost use Rattle.paper.specs.Writing.{tlv, userAbortOctets, causeAbortOctets};
-ghost use Rattle.writing.specs.Heads.{elementHead, componentsHead, beginHead, continueHead, endHead, uniHead};
-ghost use Rattle.writing.specs.Lengths.{Room, elementSize, messageSize};
+ghost use Rattle.paper.specs.Messages.{uniTag, beginTag, endTag, continueTag, abortTag};
+ghost use Rattle.paper.specs.Writing.{tlv, causeAbortOctets};
+ghost use Rattle.writing.specs.Heads.{componentsHead, frontHead};
+ghost use Rattle.writing.specs.Lengths.{Room, elementSize};
 
 // A local ID's octets.
 fn id_octets(dialogue: u32) -> [u8; 4]
@@ -41,7 +43,7 @@ fn write_peer(out: &mut [u8], at: usize, peer: [u8; 4], peerlen: usize) -> usize
 }
 
 // The octets of a 6C with n octets of components, none where there is none.
-fn components_size(n: usize) -> usize
+pub fn components_size(n: usize) -> usize
     requires { ⌜ n < 65536 ⌝ }
     ensures is { λ r. ⌜ r ≡ length (componentsHead n) + n ⌝ }
     ensures within { λ r. ⌜ r ≤ n + 4 ⌝ }
@@ -53,7 +55,7 @@ fn components_size(n: usize) -> usize
 }
 
 // The 6C up to its components.
-fn write_components(out: &mut [u8], at: usize, n: usize) -> usize
+pub fn write_components(out: &mut [u8], at: usize, n: usize) -> usize
     requires { ⌜ Room (now out) at (length (componentsHead n) + n) ⌝ }
     ensures { λ r. ⌜ Wrote (now (out .entry)) at (componentsHead n) r (now (out .exit)) ⌝ }
 {
@@ -63,83 +65,71 @@ fn write_components(out: &mut [u8], at: usize, n: usize) -> usize
     writing::write_head(out, at, 0x6C, n)
 }
 
-// A message's tag and length, where its IDs take `ids` octets and its components n.
-fn open_message(out: &mut [u8], at: usize, tag: u8, ids: usize, n: usize) -> usize
-    requires { ⌜ Room (now out) at (messageSize ids n) ⌝ }
-    ensures { λ r. ⌜ Wrote (now (out .entry)) at (elementHead tag (ids + (length (componentsHead n) + n))) r (now (out .exit)) ⌝ }
-{
-    let m = components_size(n);
-    writing::write_head(out, at, tag, ids + m)
-}
-
-// A Begin up to its n octets of components.
-pub fn begin_head(out: &mut [u8], at: usize, dialogue: u32, n: usize) -> usize
-    requires { ⌜ Room (now out) at (messageSize 6 n) ⌝ }
-    ensures is { λ r. ⌜ Wrote (now (out .entry)) at (beginHead (idOctets dialogue) n) r (now (out .exit)) ⌝ }
-    ensures within { λ r. ⌜ r + n ≡ at + messageSize 6 n ⌝ }
+// A Begin up to its ID, where m octets of dialogue portion and components follow.
+pub fn begin_front(out: &mut [u8], at: usize, dialogue: u32, m: usize) -> usize
+    requires { ⌜ Room (now out) at (elementSize (6 + m)) ⌝ }
+    ensures is { λ r. ⌜ Wrote (now (out .entry)) at (frontHead beginTag (tlv 0x48 (idOctets dialogue)) m) r (now (out .exit)) ⌝ }
+    ensures within { λ r. ⌜ r + m ≡ at + elementSize (6 + m) ⌝ }
 {
     let own = id_octets(dialogue);
-    let a = open_message(out, at, 0x62, 6, n);
-    let b = write_id(out, a, 0x48, &own);
-    write_components(out, b, n)
+    let a = writing::write_head(out, at, 0x62, 6 + m);
+    write_id(out, a, 0x48, &own)
 }
 
-// A Continue up to its n octets of components.
-pub fn continue_head(
+// A Continue up to its IDs.
+pub fn continue_front(
     out: &mut [u8],
     at: usize,
     dialogue: u32,
     peer: [u8; 4],
     peerlen: usize,
-    n: usize,
+    m: usize,
 ) -> usize
-    requires { ⌜ (peerlen ≤ 4) × Room (now out) at (messageSize (8 + peerlen) n) ⌝ }
-    ensures is { λ r. ⌜ Wrote (now (out .entry)) at (continueHead (idOctets dialogue) (take peerlen peer) n) r (now (out .exit)) ⌝ }
-    ensures within { λ r. ⌜ r + n ≡ at + messageSize (8 + peerlen) n ⌝ }
+    requires { ⌜ (peerlen ≤ 4) × Room (now out) at (elementSize (8 + peerlen + m)) ⌝ }
+    ensures is { λ r. ⌜ Wrote (now (out .entry)) at (frontHead continueTag (tlv 0x48 (idOctets dialogue) ++ tlv 0x49 (take peerlen peer)) m) r (now (out .exit)) ⌝ }
+    ensures within { λ r. ⌜ r + m ≡ at + elementSize (8 + peerlen + m) ⌝ }
 {
     let own = id_octets(dialogue);
-    let a = open_message(out, at, 0x65, 8 + peerlen, n);
+    let a = writing::write_head(out, at, 0x65, 8 + peerlen + m);
     let b = write_id(out, a, 0x48, &own);
-    let d = write_peer(out, b, peer, peerlen);
-    write_components(out, d, n)
+    write_peer(out, b, peer, peerlen)
 }
 
-// An End up to its n octets of components.
-pub fn end_head(out: &mut [u8], at: usize, peer: [u8; 4], peerlen: usize, n: usize) -> usize
-    requires { ⌜ (peerlen ≤ 4) × Room (now out) at (messageSize (2 + peerlen) n) ⌝ }
-    ensures is { λ r. ⌜ Wrote (now (out .entry)) at (endHead (take peerlen peer) n) r (now (out .exit)) ⌝ }
-    ensures within { λ r. ⌜ r + n ≡ at + messageSize (2 + peerlen) n ⌝ }
+// A message with the peer's ID alone, up to it.
+fn peer_front(out: &mut [u8], at: usize, tag: u8, peer: [u8; 4], peerlen: usize, m: usize) -> usize
+    requires { ⌜ (peerlen ≤ 4) × Room (now out) at (elementSize (2 + peerlen + m)) ⌝ }
+    ensures is { λ r. ⌜ Wrote (now (out .entry)) at (frontHead tag (tlv 0x49 (take peerlen peer)) m) r (now (out .exit)) ⌝ }
+    ensures within { λ r. ⌜ r + m ≡ at + elementSize (2 + peerlen + m) ⌝ }
 {
-    let a = open_message(out, at, 0x64, 2 + peerlen, n);
-    let b = write_peer(out, a, peer, peerlen);
-    write_components(out, b, n)
+    let a = writing::write_head(out, at, tag, 2 + peerlen + m);
+    write_peer(out, a, peer, peerlen)
 }
 
-// A Unidirectional up to its n octets of components.
-pub fn uni_head(out: &mut [u8], at: usize, n: usize) -> usize
-    requires { ⌜ Room (now out) at (messageSize 0 n) ⌝ }
-    ensures is { λ r. ⌜ Wrote (now (out .entry)) at (uniHead n) r (now (out .exit)) ⌝ }
-    ensures within { λ r. ⌜ r + n ≡ at + messageSize 0 n ⌝ }
+// An End up to its ID.
+pub fn end_front(out: &mut [u8], at: usize, peer: [u8; 4], peerlen: usize, m: usize) -> usize
+    requires { ⌜ (peerlen ≤ 4) × Room (now out) at (elementSize (2 + peerlen + m)) ⌝ }
+    ensures is { λ r. ⌜ Wrote (now (out .entry)) at (frontHead endTag (tlv 0x49 (take peerlen peer)) m) r (now (out .exit)) ⌝ }
+    ensures within { λ r. ⌜ r + m ≡ at + elementSize (2 + peerlen + m) ⌝ }
 {
-    let a = open_message(out, at, 0x61, 0, n);
-    write_components(out, a, n)
+    peer_front(out, at, 0x64, peer, peerlen, m)
 }
 
-// A user's Abort, with its dialogue portion or none.
-pub fn write_user_abort(
-    out: &mut [u8],
-    at: usize,
-    peer: [u8; 4],
-    peerlen: usize,
-    portion: &[u8],
-) -> usize
-    requires { ⌜ (peerlen ≤ 4) × Room (now out) at (elementSize (2 + peerlen + length (now portion))) ⌝ }
-    ensures is { λ r. ⌜ Wrote (now (out .entry)) at (userAbortOctets (take peerlen peer) (now (portion .entry))) r (now (out .exit)) ⌝ }
-    ensures within { λ r. ⌜ r ≡ at + elementSize (2 + peerlen + length (now (portion .entry))) ⌝ }
+// A user's Abort up to its ID.
+pub fn abort_front(out: &mut [u8], at: usize, peer: [u8; 4], peerlen: usize, m: usize) -> usize
+    requires { ⌜ (peerlen ≤ 4) × Room (now out) at (elementSize (2 + peerlen + m)) ⌝ }
+    ensures is { λ r. ⌜ Wrote (now (out .entry)) at (frontHead abortTag (tlv 0x49 (take peerlen peer)) m) r (now (out .exit)) ⌝ }
+    ensures within { λ r. ⌜ r + m ≡ at + elementSize (2 + peerlen + m) ⌝ }
 {
-    let a = writing::write_head(out, at, 0x67, 2 + peerlen + portion.len());
-    let b = write_peer(out, a, peer, peerlen);
-    writing::copy_at(out, b, portion)
+    peer_front(out, at, 0x67, peer, peerlen, m)
+}
+
+// A Unidirectional's tag and length: it has no ID.
+pub fn uni_front(out: &mut [u8], at: usize, m: usize) -> usize
+    requires { ⌜ Room (now out) at (elementSize m) ⌝ }
+    ensures is { λ r. ⌜ Wrote (now (out .entry)) at (frontHead uniTag [] m) r (now (out .exit)) ⌝ }
+    ensures within { λ r. ⌜ r + m ≡ at + elementSize m ⌝ }
+{
+    writing::write_head(out, at, 0x61, m)
 }
 
 // The transaction sub-layer's Abort, with its cause; peer is the received originating ID.
