@@ -1,6 +1,6 @@
 // The messages written (01, "Coding"): into a lent space, at a position; each answers the position past it.
 ghost use mathlib.Core.Path.{_≡_};
-ghost use Prim.Native.Nat.{_+_, _-_, _<_, _≤_};
+ghost use Prim.Native.Nat.{_+_, _<_, _≤_};
 ghost use mathlib.Core.List.{[], _++_};
 ghost use lib.ListN.{length, take};
 ghost use Rattle.laws.specs.Runs.{Wrote};
