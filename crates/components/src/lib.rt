@@ -75,7 +75,7 @@ fn known_tag(t: u8) -> bool
 }
 
 // "Invoke ID 02 01, linked 80 01": the octet of an element `tag 01 x`, else 256.
-fn single(s: &[u8], tag: u8, e: usize, p: usize) -> u32
+pub fn single(s: &[u8], tag: u8, e: usize, p: usize) -> u32
     requires { ⌜ e ≤ length (now s) ⌝ }
     ensures is { λ r. ⌜ r ≡ single (now (s .entry)) tag e p ⌝ }
     ensures within { λ r. ⌜ (r < 256 → p + 3 ≤ e) × (r ≤ 256) ⌝ }
@@ -354,8 +354,8 @@ fn framed(s: &[u8], t: u8, f: Frame, sound: bool) -> Component
     faulty(t, id, 65535, 0, x)
 }
 
-// The first octet of a component, 0 where there is none.
-fn tag_at(s: &[u8], lim: usize, at: usize) -> u8
+// The first octet at a position, 0 where there is none.
+pub fn tag_at(s: &[u8], lim: usize, at: usize) -> u8
     requires { ⌜ lim ≤ length (now s) ⌝ }
     ensures { λ r. ⌜ r ≡ tagAt (now (s .entry)) lim at ⌝ }
 {

@@ -4,8 +4,9 @@ ghost use mathlib.Core.Path.{_≡_};
 ghost use Prim.Native.Nat.{_+_, _≤_};
 ghost use lib.ListN.{length};
 ghost use Rattle.paper.specs.Elements.{isElement};
-ghost use Rattle.paper.specs.Dialogues.{isCode, isParameter, isResult, isPortion};
+ghost use Rattle.paper.specs.Dialogues.{isCode, isParameter, isResult, isPortion, isName, isBlock, isInformation, unplaced};
 ghost use Rattle.given.specs.Pieces.{piecesRefusal, bothRefusal};
+ghost use Rattle.given.specs.Portion.{refusalOf};
 
 // One well-formed element, with so many depths to go.
 pub fn is_element(l: &[u8], left: usize) -> bool
@@ -65,6 +66,42 @@ pub fn is_portion(l: &[u8]) -> bool
     return is_element(l, 16);
 }
 
+// A context name (02 a): "one 06 element", of at least 1 octet, or none.
+pub fn is_name(l: &[u8]) -> bool
+    ensures { λ r. ⌜ r ≡ isName (now (l .entry)) ⌝ }
+{
+    if l.len() == 0 {
+        return true;
+    }
+    if l[0] != 6 {
+        return false;
+    }
+    return is_code(l);
+}
+
+// User information (02 a): "one BE element", at depth 5 in its portion.
+pub fn is_block(l: &[u8]) -> bool
+    ensures { λ r. ⌜ r ≡ isBlock (now (l .entry)) ⌝ }
+{
+    if l.len() == 0 {
+        return false;
+    }
+    if l[0] != 0xBE {
+        return false;
+    }
+    return is_element(l, 12);
+}
+
+// User information, or none.
+pub fn is_information(l: &[u8]) -> bool
+    ensures { λ r. ⌜ r ≡ isInformation (now (l .entry)) ⌝ }
+{
+    if l.len() == 0 {
+        return true;
+    }
+    return is_block(l);
+}
+
 // Of an invoke or an error where n octets wait: 11, 12 or 0. `front` octets stand before the operation or error.
 pub fn pieces_refusal(n: usize, front: usize, code: &[u8], par: &[u8]) -> u32
     requires { ⌜ (n ≤ 240) × (front ≤ 6) ⌝ }
@@ -108,4 +145,57 @@ pub fn both_refusal(n: usize, op: &[u8], par: &[u8]) -> u32
         return 0;
     }
     return 11;
+}
+
+// "14, either given with continue or end in Active, or user information without a name" (02 a).
+fn unplaced_by(state: u8, name: &[u8], information: &[u8]) -> u32
+    ensures { λ r. ⌜ r ≡ unplaced state (now (name .entry)) (now (information .entry)) ⌝ }
+{
+    if name.len() == 0 {
+        if information.len() == 0 {
+            return 0;
+        }
+        return 14;
+    }
+    if state == 4 {
+        return 14;
+    }
+    return 0;
+}
+
+// Of a name and information of which one is given, with any PDU but an ABRT: in this order 11, 12 ("The 240 octets .. count the portion too"), 14 or 0.
+fn formed_refusal(n: usize, state: u8, kind: u8, name: &[u8], information: &[u8]) -> u32
+    requires { ⌜ (n ≤ 240) × (kind ≡ 4 → ⊥) ⌝ }
+    ensures { λ r. ⌜ r ≡ refusalOf n state kind (now (name .entry)) (now (information .entry)) ⌝ }
+{
+    if is_name(name) {
+        if is_information(information) {
+            if name.len() > 240 {
+                return 12;
+            }
+            if information.len() > 240 {
+                return 12;
+            }
+            let size = writing_portions::portion_size(kind, name.len(), information.len());
+            if n + size > 240 {
+                return 12;
+            }
+            return unplaced_by(state, name, information);
+        }
+        return 11;
+    }
+    return 11;
+}
+
+// Of a name and information where n octets wait: none given, none refused, by two tests.
+pub fn portion_refusal(n: usize, state: u8, kind: u8, name: &[u8], information: &[u8]) -> u32
+    requires { ⌜ (n ≤ 240) × (kind ≡ 4 → ⊥) ⌝ }
+    ensures { λ r. ⌜ r ≡ refusalOf n state kind (now (name .entry)) (now (information .entry)) ⌝ }
+{
+    if name.len() == 0 {
+        if information.len() == 0 {
+            return 0;
+        }
+    }
+    return formed_refusal(n, state, kind, name, information);
 }

@@ -1,21 +1,21 @@
 -- WHAT A SENDING IS REFUSED BY: a Unidirectional by a component not of class 4, an abort by its dialogue portion. Assumes nothing.
 use mathlib.Core.Path.{_≡_, refl, sym, ap, _∙_}
 use mathlib.Core.Bool.{Bool, true, false}
-use mathlib.Core.List.{List}
+use mathlib.Core.List.{List, []}
 use Prim.Native.Nat.{ℕ, suc, _+_, _-_, _<_, _≤_}
 use native.Mathlib.Omega.{arith}
 use lib.Dec.{ltb, eqb}
-use lib.ListN.{length, getD}
-use borrow.Author.Tests.{lt-ltb, le-ltb}
-use Rattle.laws.specs.If.{ifB, eq, ne, yes, no, was-eq, true-false}
+use lib.ListN.{length, getD, List·getD-eq-default}
+use borrow.Author.Tests.{lt-ltb, le-ltb, ne-eqb, eqb-true, eqb-false}
+use Rattle.laws.specs.If.{ifB, lt, ge, eq, ne, yes, no, by-lt, was-eq, was-ge, was-yes, true-false}
 use Rattle.laws.specs.Lists.{every}
-use Rattle.paper.specs.declared.Reading.{Reading}
-use Rattle.paper.specs.declared.Reading.the-variants.{Ends, Fault}
 use Rattle.paper.specs.declared.Component.{Component}
 use Rattle.paper.specs.declared.Control.{Control}
-use Rattle.paper.specs.Elements.{element, endsAt, isElement}
 use Rattle.paper.specs.Components.{Item, componentAt, nextStart, goOn, items, components}
-use Rattle.paper.specs.Dialogues.{Place, isPortion, ofClass4, uniRefusal}
+use Rattle.paper.specs.Portions.{Form, abrt, portionBy}
+use Rattle.paper.specs.Dialogues.{Place, isPortion, isBlock, isAbort, abortPortion, abortRefusal, ofClass4, uniRefusal}
+use Rattle.writing_portions.specs.Forms.{formFor, form-4}
+use Rattle.writing_portions.specs.Spans.{information-over}
 
 -- ---- components one after another: the test of what is left answers for the whole
 pub record Rest (f : Item → Bool) (w : List ℕ) (at : ℕ) : Type 0 where
@@ -97,24 +97,70 @@ module _ (x : Place) (c : Control) (e : c ≡ x .control) where
     unfolding uniRefusal
     uni-no y = eq _ _ _ _ is-open (no _ _ _ (sym all-are ∙ y) refl)
 
--- ---- a dialogue portion
+-- ---- a user abort's dialogue portion: user information begins with BE
+unfoldable pub isTold : List ℕ → Bool
+isTold l = eqb (getD l 0 0) 0xBE
+
 module _ (l : List ℕ) where
-  pub portion-none : length l ≡ 0 → true ≡ isPortion l
-  unfolding isPortion
-  portion-none h = eq _ _ _ _ h refl
+  pub told-none : length l ≡ 0 → false ≡ isTold l
+  unfolding isTold
+  told-none h = sym (ne-eqb (getD l 0 0) 0xBE (λ e. omega (arith, e, List·getD-eq-default l 0 {n = 0} (omega arith))))
 
-  module _ (n : length l ≡ 0 → ⊥) where
-    pub portion-other : (getD l 0 0 ≡ 0x6B → ⊥) → false ≡ isPortion l
-    unfolding isPortion
-    portion-other h = ne _ _ _ _ n (ne _ _ _ _ h refl)
+  module _ (e : isTold l ≡ true) where
+    is-told : getD l 0 0 ≡ 0xBE
+    unfolding isTold
+    is-told = eqb-true (getD l 0 0) 0xBE e
 
-    module _ (h : getD l 0 0 ≡ 0x6B) (r : Reading) (e : r ≡ element l 16 (length l) 0) where
-      read : endsAt (length l) r ≡ isPortion l
-      unfolding isPortion isElement
-      read = ne _ _ _ _ n (eq _ _ _ _ h (ap (endsAt (length l)) e))
+    pub abort-block : isBlock l ≡ isAbort l
+    unfolding isAbort
+    abort-block = eq _ _ _ _ is-told refl
 
-      pub portion-ends : (k : ℕ) → r ≡ Ends k → eqb k (length l) ≡ isPortion l
-      portion-ends k q = sym (ap (endsAt (length l)) q) ∙ read
+    pub abort-formed : portionBy abrt [] l ≡ abortPortion l
+    unfolding abortPortion
+    abort-formed = eq _ _ _ _ is-told refl
 
-      pub portion-fault : (k : ℕ) → r ≡ Fault k → false ≡ isPortion l
-      portion-fault k q = sym (ap (endsAt (length l)) q) ∙ read
+    -- by the number of its PDU
+    pub abort-by : portionBy (formFor 4) [] l ≡ abortPortion l
+    abort-by = ap (λ (f : Form). portionBy f [] l) form-4 ∙ abort-formed
+
+  module _ (e : isTold l ≡ false) where
+    not-told : getD l 0 0 ≡ 0xBE → ⊥
+    unfolding isTold
+    not-told = eqb-false (getD l 0 0) 0xBE e
+
+    pub abort-whole : isPortion l ≡ isAbort l
+    unfolding isAbort
+    abort-whole = ne _ _ _ _ not-told refl
+
+    pub abort-given : l ≡ abortPortion l
+    unfolding abortPortion
+    abort-given = ne _ _ _ _ not-told refl
+
+  -- octets over 240 make a portion that is
+  pub abort-long : 240 < length l → 240 < length (abortPortion l)
+  abort-long h = go (isTold l) refl
+    where
+      go : (b : Bool) → isTold l ≡ b → 240 < length (abortPortion l)
+      go true e = omega (arith, information-over 4 [] l h, ap length (abort-by e))
+      go false e = omega (arith, ap length (abort-given e))
+
+  pub abort-wrong : isAbort l ≡ false → 11 ≡ abortRefusal l
+  unfolding abortRefusal
+  abort-wrong e = no _ _ _ e refl
+
+  module _ (e : isAbort l ≡ true) where
+    pub abort-over : 240 < length (abortPortion l) → 12 ≡ abortRefusal l
+    unfolding abortRefusal
+    abort-over h = yes _ _ _ e (lt _ _ _ _ h refl)
+
+    pub abort-fits : length (abortPortion l) ≤ 240 → 0 ≡ abortRefusal l
+    unfolding abortRefusal
+    abort-fits h = yes _ _ _ e (ge _ _ _ _ h refl)
+
+-- not refused: neither what is given nor its portion is over 240
+pub abort-octets : (l : List ℕ) → 0 ≡ abortRefusal l → (length l ≤ 240) × (length (abortPortion l) ≤ 240)
+unfolding abortRefusal
+abort-octets l e =
+    let a = was-yes _ _ _ e (λ z. omega (arith, z)) in
+    let b : length (abortPortion l) ≤ 240 = was-ge _ _ _ _ (a .1) (λ z. omega (arith, z)) .0 in
+    (by-lt {A = ℕ} 240 (length l) 0 0 refl (λ h _. absurd (omega (arith, b, abort-long l h))) (λ h _. h), b)

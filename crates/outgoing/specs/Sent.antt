@@ -36,11 +36,11 @@ pub record Holds (t : List ℕ) (p : ℕ) (c : Control) : Type 0 where
 pub holds-fine : {t : List ℕ} {p : ℕ} {c : Control} → Holds t p c → FineControl c
 holds-fine h = subst FineControl (sym (h .control)) (h .fine .control)
 
--- whether the waiting rejects go too, and how many octets of components are sent
-pub record Sends (x : Place) (fits : Bool) (n : ℕ) : Type 0 where
-  pub fit : fits ≡ rejectsFit x
-  pub long : n ≡ length (sentComponents x)
-  pub most : n ≤ 240
+-- whether the waiting rejects go too where q octets are the dialogue portion's, and how many octets of components are sent
+pub record Sends (x : Place) (q : ℕ) (fits : Bool) (n : ℕ) : Type 0 where
+  pub fit : fits ≡ rejectsFit x q
+  pub long : n ≡ length (sentComponents x fits)
+  pub most : q + n ≤ 240
 
 abbrev pub controlAfter : Control → ℕ → Bool → Control
 controlAfter c state fits = ifB fits (withoutRejects (allTransmitted (withState c state))) (allTransmitted (withState c state))
@@ -101,47 +101,41 @@ reject-asks c i at e n f h q g =
 
 -- ---- what is sent
 module _ (x : Place) where
-  pub fits-is : (w n : ℕ) → w ≡ length (x .waiting) → n ≡ length (waitingRejects (x .control)) → w + n ≤ 240 → Sends x true (w + n)
-  unfolding sentComponents rejectsFit
-  fits-is w n a b h =
-      let e : leb (length (x .waiting) + length (waitingRejects (x .control))) 240 ≡ true = le-leb (length (x .waiting) + length (waitingRejects (x .control))) 240 (omega arith) in
-      record {
-        fit = sym e;
-        long = omega (arith, length-append (x .waiting) (waitingRejects (x .control))) ∙ ap length (yes (rejectsFit x) (x .waiting ++ waitingRejects (x .control)) (x .waiting) e refl);
-        most = h;
-      }
-
-  pub fits-not : (w n : ℕ) → w ≡ length (x .waiting) → n ≡ length (waitingRejects (x .control)) → 240 < w + n → w ≤ 240 → Sends x false w
-  unfolding sentComponents rejectsFit
-  fits-not w n a b h g =
-      let e : leb (length (x .waiting) + length (waitingRejects (x .control))) 240 ≡ false = lt-leb (length (x .waiting) + length (waitingRejects (x .control))) 240 (omega arith) in
-      record {
-        fit = sym e;
-        long = a ∙ ap length (no (rejectsFit x) (x .waiting ++ waitingRejects (x .control)) (x .waiting) e refl);
-        most = g;
-      }
-
-  pub sent-all : rejectsFit x ≡ true → x .waiting ++ waitingRejects (x .control) ≡ sentComponents x
+  pub sent-all : (fits : Bool) → fits ≡ true → x .waiting ++ waitingRejects (x .control) ≡ sentComponents x fits
   unfolding sentComponents
-  sent-all e = yes (rejectsFit x) (x .waiting ++ waitingRejects (x .control)) (x .waiting) e refl
+  sent-all fits e = yes fits (x .waiting ++ waitingRejects (x .control)) (x .waiting) e refl
 
-  pub sent-none : rejectsFit x ≡ false → x .waiting ≡ sentComponents x
+  pub sent-none : (fits : Bool) → fits ≡ false → x .waiting ≡ sentComponents x fits
   unfolding sentComponents
-  sent-none e = no (rejectsFit x) (x .waiting ++ waitingRejects (x .control)) (x .waiting) e refl
+  sent-none fits e = no fits (x .waiting ++ waitingRejects (x .control)) (x .waiting) e refl
+
+  module _ (q w n : ℕ) (a : w ≡ length (x .waiting)) (b : n ≡ length (waitingRejects (x .control))) where
+    pub fits-is : q + w + n ≤ 240 → Sends x q true (w + n)
+    unfolding rejectsFit
+    fits-is h = record {
+      fit = sym (le-leb (q + (length (x .waiting) + length (waitingRejects (x .control)))) 240 (omega arith));
+      long = omega (arith, length-append (x .waiting) (waitingRejects (x .control)), ap length (sent-all true refl));
+      most = omega arith;
+    }
+
+    pub fits-not : 240 < q + w + n → q + w ≤ 240 → Sends x q false w
+    unfolding rejectsFit
+    fits-not h g = record {
+      fit = sym (lt-leb (q + (length (x .waiting) + length (waitingRejects (x .control)))) 240 (omega arith));
+      long = a ∙ ap length (sent-none false refl);
+      most = g;
+    }
 
   -- the waiting octets are sent in any case
-  pub sent-least : length (x .waiting) ≤ length (sentComponents x)
-  sent-least = go (rejectsFit x) refl
-    where
-      go : (b : Bool) → rejectsFit x ≡ b → length (x .waiting) ≤ length (sentComponents x)
-      go true e = omega (arith, ap length (sent-all e), length-append (x .waiting) (waitingRejects (x .control)))
-      go false e = omega (arith, ap length (sent-none e))
+  pub sent-least : (fits : Bool) → length (x .waiting) ≤ length (sentComponents x fits)
+  sent-least true = omega (arith, ap length (sent-all true refl), length-append (x .waiting) (waitingRejects (x .control)))
+  sent-least false = omega (arith, ap length (sent-none false refl))
 
   -- room for both is room for the one after the other
-  pub sent-room : (c : Control) (w : List ℕ) (at e n : ℕ) → rejectsFit x ≡ true → c ≡ x .control → w ≡ x .waiting → e ≡ at + length w
-      → at + length (sentComponents x) ≤ n → e + length (waitingRejects c) ≤ n
-  sent-room c w at e n f a b d h =
-      omega (arith, ap length b, ap (λ (k : Control). length (waitingRejects k)) a, ap length (sent-all f), length-append (x .waiting) (waitingRejects (x .control)))
+  pub sent-room : (fits : Bool) (c : Control) (w : List ℕ) (at e n : ℕ) → fits ≡ true → c ≡ x .control → w ≡ x .waiting → e ≡ at + length w
+      → at + length (sentComponents x fits) ≤ n → e + length (waitingRejects c) ≤ n
+  sent-room fits c w at e n f a b d h =
+      omega (arith, ap length b, ap (λ (k : Control). length (waitingRejects k)) a, ap length (sent-all fits f), length-append (x .waiting) (waitingRejects (x .control)))
 
 -- ---- what is left
 module _ (t : List ℕ) (p : ℕ) (c : Control) (h : Holds t p c) (state : ℕ) (fits : Bool) where
@@ -161,8 +155,6 @@ module _ (t : List ℕ) (p : ℕ) (c : Control) (h : Holds t p c) (state : ℕ) 
       go true = record { ready = h .ready; small = h .small; told = h .told; control = storable-without after stored; state = λ z. omega (arith, z) }
       go false = record { ready = h .ready; small = h .small; told = h .told; control = stored; state = λ z. omega (arith, z) }
 
-  pub after-is : fits ≡ rejectsFit (placeAt (view t) p) → withWaiting (controlAfter c state fits) [] ≡ afterSending (placeAt (view t) p) state
+  pub after-is : withWaiting (controlAfter c state fits) [] ≡ afterSending (placeAt (view t) p) fits state
   unfolding afterSending
-  after-is e =
-      ap (λ (b : Bool). withWaiting (controlAfter c state b) []) e
-      ∙ ap (λ (d : Control). withWaiting (controlAfter d state (rejectsFit (placeAt (view t) p))) []) (h .control)
+  after-is = ap (λ (d : Control). withWaiting (controlAfter d state fits) []) (h .control)

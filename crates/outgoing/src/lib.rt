@@ -8,11 +8,12 @@ ghost use lib.ListN.{length};
 ghost use Rattle.laws.specs.Runs.{Wrote};
 ghost use Rattle.laws.specs.Lists.{every};
 ghost use Rattle.paper.specs.Components.{components};
-ghost use Rattle.paper.specs.Dialogues.{ofClass4, uniRefusal, abortRefusal, waitingRejects, rejectsFit, sentComponents, withState, withoutRejects, afterSending};
+ghost use Rattle.paper.specs.Dialogues.{ofClass4, uniRefusal, isAbort, abortPortion, abortRefusal, waitingRejects, sentComponents, withState, withoutRejects, afterSending};
 ghost use Rattle.paper.specs.Calls.{placeAt, withPlace};
 ghost use Rattle.paper.specs.Layout.{encode, view};
 ghost use Rattle.facts.specs.Fine.{FineControl};
-ghost use Rattle.outgoing.specs.Refused.{class4};
+ghost use Rattle.writing.specs.Lengths.{Room};
+ghost use Rattle.outgoing.specs.Refused.{class4, isTold};
 ghost use Rattle.outgoing.specs.Sent.{Holds, Sends, controlAfter};
 
 fn wide(x: u8) -> usize
@@ -61,14 +62,15 @@ pub struct Sent {
     pub length: usize,
 }
 
-// "then all waiting rejects if the sum is at most 240, else they wait": whether they go, and the octets sent in all.
-pub fn sent_of(t: &[u8], p: usize, c: Control) -> Sent
-    requires { ⌜ Holds (now t) p c ⌝ }
-    ensures { λ r. ⌜ Sends (placeAt (view (now (t .entry))) p) (r .fits) (r .length) ⌝ }
+// "then all waiting rejects if the sum is at most 240, else they wait", q octets of it the dialogue portion's (02 a): whether they go, and
+// the octets of components sent in all.
+pub fn sent_of(t: &[u8], p: usize, c: Control, q: usize) -> Sent
+    requires { ⌜ Holds (now t) p c × (q + length (placeAt (view (now t)) p .waiting) ≤ 240) ⌝ }
+    ensures { λ r. ⌜ Sends (placeAt (view (now (t .entry))) p) q (r .fits) (r .length) ⌝ }
 {
     let w = places::waiting_length(t, p);
     let r = rejects_size(c);
-    if w + r <= 240 {
+    if q + w + r <= 240 {
         return Sent {
             fits: true,
             length: w + r,
@@ -82,8 +84,8 @@ pub fn sent_of(t: &[u8], p: usize, c: Control) -> Sent
 
 // "Sending writes waiting components in order", then the waiting rejects that fit.
 pub fn write_sent(out: &mut [u8], at: usize, t: &[u8], p: usize, c: Control, fits: bool) -> usize
-    requires { ⌜ Holds (now t) p c × (fits ≡ rejectsFit (placeAt (view (now t)) p)) × (at + length (sentComponents (placeAt (view (now t)) p)) ≤ length (now out)) ⌝ }
-    ensures { λ r. ⌜ Wrote (now (out .entry)) at (sentComponents (placeAt (view (now (t .entry))) p)) r (now (out .exit)) ⌝ }
+    requires { ⌜ Holds (now t) p c × (at + length (sentComponents (placeAt (view (now t)) p) fits) ≤ length (now out)) ⌝ }
+    ensures { λ r. ⌜ Wrote (now (out .entry)) at (sentComponents (placeAt (view (now (t .entry))) p) fits) r (now (out .exit)) ⌝ }
 {
     let w = places::waiting(t, p);
     let e = writing::copy_at(out, at, w);
@@ -126,8 +128,8 @@ fn control_after(c: Control, state: u8, fits: bool) -> Control
 
 // What a sending leaves of the dialogue at place p, in its new state.
 pub fn leave_at(t: &mut [u8], p: usize, c: Control, state: u8, fits: bool)
-    requires { ⌜ Holds (now t) p c × (0 < state) × (fits ≡ rejectsFit (placeAt (view (now t)) p)) ⌝ }
-    ensures { λ r. ⌜ now (t .exit) ≡ encode (withPlace (view (now (t .entry))) p (afterSending (placeAt (view (now (t .entry))) p) state)) ⌝ }
+    requires { ⌜ Holds (now t) p c × (0 < state) ⌝ }
+    ensures { λ r. ⌜ now (t .exit) ≡ encode (withPlace (view (now (t .entry))) p (afterSending (placeAt (view (now (t .entry))) p) fits state)) ⌝ }
 {
     let d = control_after(c, state, fits);
     places::sent_at(t, p, d);
@@ -181,12 +183,57 @@ pub fn uni_refusal(t: &[u8], p: usize, c: Control) -> u32
     return 6;
 }
 
+// Whether octets given with a user abort are user information (02 a): they begin with BE.
+fn is_told(portion: &[u8]) -> bool
+    ensures { λ r. ⌜ r ≡ isTold (now (portion .entry)) ⌝ }
+{
+    if portion.len() == 0 {
+        return false;
+    }
+    return portion[0] == 0xBE;
+}
+
+// The octets of an abort's dialogue portion: a whole 6B as it is given, user information in an ABRT.
+pub fn abort_size(portion: &[u8]) -> usize
+    requires { ⌜ length (now portion) ≤ 240 ⌝ }
+    ensures { λ r. ⌜ r ≡ length (abortPortion (now (portion .entry))) ⌝ }
+{
+    if is_told(portion) {
+        return writing_portions::portion_size(4, 0, portion.len());
+    }
+    return portion.len();
+}
+
+// An abort's dialogue portion.
+pub fn write_aborted(out: &mut [u8], at: usize, portion: &[u8]) -> usize
+    requires { ⌜ (length (now portion) ≤ 240) × Room (now out) at (length (abortPortion (now portion))) ⌝ }
+    ensures { λ r. ⌜ Wrote (now (out .entry)) at (abortPortion (now (portion .entry))) r (now (out .exit)) ⌝ }
+{
+    if is_told(portion) {
+        return writing_portions::write_portion(out, at, 4, &portion[..0], portion);
+    }
+    return writing::copy_at(out, at, portion);
+}
+
+// What a user abort may be given: one BE element, "a whole 6B element or none".
+fn is_abort(portion: &[u8]) -> bool
+    ensures { λ r. ⌜ r ≡ isAbort (now (portion .entry)) ⌝ }
+{
+    if is_told(portion) {
+        return given::is_block(portion);
+    }
+    return given::is_portion(portion);
+}
+
 // A user abort's dialogue portion: not one well-formed element of its kind (11), over 240 octets (12).
 pub fn abort_refusal(portion: &[u8]) -> u32
     ensures { λ r. ⌜ r ≡ abortRefusal (now (portion .entry)) ⌝ }
 {
-    if given::is_portion(portion) {
+    if is_abort(portion) {
         if portion.len() > 240 {
+            return 12;
+        }
+        if abort_size(portion) > 240 {
             return 12;
         }
         return 0;

@@ -4,12 +4,13 @@ use mathlib.Core.List.{List, []}
 use Prim.Native.Nat.{ℕ, _<_, _≤_}
 use native.Mathlib.Omega.{arith}
 use lib.ListN.{length}
-use Rattle.laws.specs.If.{ifLt, ifEq, lt, ge, eq, ne, by-lt, was-ge, was-yes}
+use Rattle.laws.specs.If.{ifLt, ifEq, lt, ge, by-lt}
 use Rattle.laws.specs.Runs.{Wrote}
 use Rattle.paper.specs.declared.Control.{Control}
-use Rattle.paper.specs.Dialogues.{Place, Request, done, refusal, does, peerOf, needsOpen, needsPeer, abortRefusal, abortMessage}
+use Rattle.paper.specs.Portions.{Form, aarq, aare, audt}
+use Rattle.paper.specs.Dialogues.{Place, Request, done, refusal, does, peerOf, first, needsOpen, needsPeer, uniRefusal, portionRefusal, abortPortion, abortMessage}
 use Rattle.paper.specs.Writing.{userAbortOctets}
-use Rattle.paper.specs.Dialogues.Request.{Begin}
+use Rattle.paper.specs.Dialogues.Request.{Begin, Continue, End, Unidirectional}
 use Rattle.paper.specs.Calls.{placeAt, withPlace}
 use Rattle.paper.specs.Calls.Call.{OnDialogue}
 use Rattle.paper.specs.Layout.{encode, view}
@@ -18,6 +19,7 @@ use Rattle.entry.specs.declared.Reply.{Reply}
 use Rattle.entry.specs.Replies.{reply, Told}
 use Rattle.entry.specs.Prologue.{entryAt, InDialogue, Meets}
 use Rattle.entry.specs.Ends.{Long, no-rows, space-short, dialogue-refused, dialogue-no, dialogue-done}
+use Rattle.writing_portions.specs.Forms.{formFor, form-2, form-3, form-5}
 use Rattle.outgoing.specs.Sent.{Holds}
 
 abbrev pub lent : List ℕ → List ℕ → Lent
@@ -67,32 +69,47 @@ module _ (t m : List ℕ) (s d : ℕ) (q : Request) (w : spacesOf q ≡ messageS
         dialogue-done (lent t m) s d q (long (f .room z)) p (f .inside z) y [] ms a b (k ∙ ap (λ (i : ℕ). reply 0 0 i 0) x) g (no-rows []) (h .holds)
 
 -- ---- the states that the requests need
+abbrev pub openRefusal : ℕ → ℕ
+openRefusal state = ifEq state 1 0 6
+
 abbrev pub peerRefusal : ℕ → ℕ
 peerRefusal state = ifEq state 3 0 (ifEq state 4 0 6)
 
 -- what an abort writes, by the control record
 abbrev pub abortBy : Control → List ℕ → List ℕ
-abortBy c portion = ifEq (peerRefusal (c .state)) 0 (userAbortOctets (peerOf c) portion) []
-
-pub abort-octets : (portion : List ℕ) → 0 ≡ abortRefusal portion → length portion ≤ 240
-unfolding abortRefusal
-abort-octets portion e =
-    let a = was-yes _ _ _ e (λ z. omega (arith, z)) in
-    was-ge _ _ _ _ (a .1) (λ z. omega (arith, z)) .0
+abortBy c given = ifEq (peerRefusal (c .state)) 0 (userAbortOctets (peerOf c) (abortPortion given)) []
 
 module _ (x : Place) (c : Control) (e : c ≡ x .control) where
-  pub begin-no : (c .state ≡ 1 → ⊥) → 6 ≡ refusal x Begin
-  unfolding refusal needsOpen
-  begin-no n = ne _ _ _ _ (λ z. n (ap (λ (k : Control). k .state) e ∙ z)) refl
-
-  pub begin-may : c .state ≡ 1 → 0 ≡ refusal x Begin
-  unfolding refusal needsOpen
-  begin-may z = eq _ _ _ _ (sym (ap (λ (k : Control). k .state) e) ∙ z) refl
+  pub needs-open : (n : ℕ) → n ≡ openRefusal (c .state) → n ≡ needsOpen x
+  unfolding needsOpen
+  needs-open n h = h ∙ ap (λ (k : Control). openRefusal (k .state)) e
 
   pub needs-peer : (n : ℕ) → n ≡ peerRefusal (c .state) → n ≡ needsPeer x
   unfolding needsPeer
   needs-peer n h = h ∙ ap (λ (k : Control). peerRefusal (k .state)) e
 
-  pub abort-is : (portion : List ℕ) → abortBy c portion ≡ abortMessage x portion
+  pub abort-is : (given : List ℕ) → abortBy c given ≡ abortMessage x given
   unfolding abortMessage needsPeer
-  abort-is portion = ap (λ (k : Control). abortBy k portion) e
+  abort-is given = ap (λ (k : Control). abortBy k given) e
+
+-- ---- the state's number, else the portion's, by the form of its PDU
+module _ (x : Place) (name info : List ℕ) (a r : ℕ) where
+  as-form : (kind : ℕ) (f : Form) → formFor kind ≡ f → (b : ℕ) → a ≡ b → r ≡ first a (portionRefusal x (formFor kind) name info) → r ≡ first b (portionRefusal x f name info)
+  as-form kind f e b h g =
+      g ∙ ap (λ (k : ℕ). first k (portionRefusal x (formFor kind) name info)) h ∙ ap (λ (k : Form). first b (portionRefusal x k name info)) e
+
+  pub begin-number : a ≡ needsOpen x → r ≡ first a (portionRefusal x (formFor 2) name info) → r ≡ refusal x (Begin name info)
+  unfolding refusal
+  begin-number h g = as-form 2 aarq form-2 (needsOpen x) h g
+
+  pub continue-number : a ≡ needsPeer x → r ≡ first a (portionRefusal x (formFor 3) name info) → r ≡ refusal x (Continue name info)
+  unfolding refusal
+  continue-number h g = as-form 3 aare form-3 (needsPeer x) h g
+
+  pub end-number : a ≡ needsPeer x → r ≡ first a (portionRefusal x (formFor 3) name info) → r ≡ refusal x (End name info)
+  unfolding refusal
+  end-number h g = as-form 3 aare form-3 (needsPeer x) h g
+
+  pub uni-number : a ≡ uniRefusal x → r ≡ first a (portionRefusal x (formFor 5) name info) → r ≡ refusal x (Unidirectional name info)
+  unfolding refusal
+  uni-number h g = as-form 5 audt form-5 (uniRefusal x) h g

@@ -5,20 +5,23 @@ use paper::Control;
 use paper::LEAST_SPACE;
 ghost use mathlib.Core.Path.{_≡_};
 ghost use mathlib.Core.List.{[]};
-ghost use Prim.Native.Nat.{_≤_};
+ghost use Prim.Native.Nat.{_+_, _≤_};
 ghost use lib.ListN.{length};
 ghost use Rattle.laws.specs.Runs.{Wrote};
 ghost use Rattle.paper.specs.Sizes.{idOctets};
 ghost use Rattle.paper.specs.Writing.{beginOctets, continueOctets, endOctets, uniOctets};
-ghost use Rattle.paper.specs.Dialogues.{peerOf, sentComponents};
+ghost use Rattle.paper.specs.Portions.{portionBy};
+ghost use Rattle.paper.specs.Dialogues.{peerOf, first, portionRefusal, sentComponents, abortPortion};
 ghost use Rattle.paper.specs.Dialogues.Request.{Begin, Continue, End, Unidirectional, Abort};
 ghost use Rattle.paper.specs.Calls.{placeAt};
 ghost use Rattle.paper.specs.Calls.Call.{OnDialogue};
 ghost use Rattle.paper.specs.Layout.{view};
 ghost use Rattle.paper.specs.Outcome.{Gives, outcome};
 ghost use Rattle.facts.specs.Fine.{FineControl};
-ghost use Rattle.outgoing.specs.Sent.{Holds, Sends};
-ghost use Rattle.sending.specs.Starts.{Starts, peerRefusal, abortBy};
+ghost use Rattle.writing_portions.specs.Forms.{formFor};
+ghost use Rattle.outgoing.specs.Sent.{Holds};
+ghost use Rattle.sending.specs.Starts.{Starts, openRefusal, peerRefusal, abortBy};
+ghost use Rattle.sending.specs.Messages.{Follows, rest, restSize};
 
 // The prologue of a call that takes a message space of n octets: 1 where it is too short, else that of every call on a dialogue.
 fn start(t: &[u8], n: usize, service: u32, dialogue: u32) -> Met
@@ -31,6 +34,16 @@ fn start(t: &[u8], n: usize, service: u32, dialogue: u32) -> Met
         };
     }
     return entry::enter_at(t, service, dialogue);
+}
+
+// "Begin (to Sent) and Unidirectional (frees) need Open."
+fn open_refusal(state: u8) -> u32
+    ensures { λ r. ⌜ r ≡ openRefusal state ⌝ }
+{
+    if state == 1 {
+        return 0;
+    }
+    return 6;
 }
 
 // "Continue (to Active) and basic end (frees) need Received or Active."
@@ -46,57 +59,167 @@ fn peer_refusal(state: u8) -> u32
     return 6;
 }
 
-// A Begin with the n octets that are sent.
+// The state's refusal, else that of the name and user information given with a sending (02 a).
+fn refusal_with(
+    t: &[u8],
+    p: usize,
+    c: Control,
+    state: u32,
+    kind: u8,
+    name: &[u8],
+    information: &[u8],
+) -> u32
+    requires { ⌜ Holds (now t) p c × (kind ≡ 4 → ⊥) ⌝ }
+    ensures { λ r. ⌜ r ≡ first state (portionRefusal (placeAt (view (now (t .entry))) p) (formFor kind) (now (name .entry)) (now (information .entry))) ⌝ }
+{
+    if state != 0 {
+        return state;
+    }
+    let n = places::waiting_length(t, p);
+    return given::portion_refusal(n, c.state, kind, name, information);
+}
+
+// What follows a message's IDs: the octets of its dialogue portion; whether the waiting rejects go; the octets of components.
+struct Follow {
+    portion: usize,
+    fits: bool,
+    length: usize,
+}
+
+fn what_follows(t: &[u8], p: usize, c: Control, kind: u8, name: &[u8], information: &[u8]) -> Follow
+    requires { ⌜ Holds (now t) p c × (kind ≡ 4 → ⊥) × (0 ≡ portionRefusal (placeAt (view (now t)) p) (formFor kind) (now name) (now information)) ⌝ }
+    ensures { λ r. ⌜ Follows (placeAt (view (now (t .entry))) p) kind (now (name .entry)) (now (information .entry)) (r .portion) (r .fits) (r .length) ⌝ }
+{
+    let q = writing_portions::portion_size(kind, name.len(), information.len());
+    let s = outgoing::sent_of(t, p, c, q);
+    return Follow {
+        portion: q,
+        fits: s.fits,
+        length: s.length,
+    };
+}
+
+// The octets after the IDs, the 6C's head counted.
+fn rest_size(f: Follow) -> usize
+    requires { ⌜ f .portion + f .length ≤ 240 ⌝ }
+    ensures { λ r. ⌜ r ≡ restSize (f .portion) (f .length) ⌝ }
+{
+    let n = f.length;
+    let m = writing_messages::components_size(n);
+    return f.portion + m;
+}
+
+// What follows the IDs of each of the four messages: its dialogue portion, the 6C's head, what is sent.
+fn write_rest(
+    out: &mut [u8],
+    at: usize,
+    t: &[u8],
+    p: usize,
+    c: Control,
+    kind: u8,
+    name: &[u8],
+    information: &[u8],
+    f: Follow,
+) -> usize
+    requires { ⌜ Holds (now t) p c × Follows (placeAt (view (now t)) p) kind (now name) (now information) (f .portion) (f .fits) (f .length) × (at + restSize (f .portion) (f .length) ≤ length (now out)) ⌝ }
+    ensures { λ r. ⌜ Wrote (now (out .entry)) at (rest (portionBy (formFor kind) (now (name .entry)) (now (information .entry))) (sentComponents (placeAt (view (now (t .entry))) p) (f .fits))) r (now (out .exit)) ⌝ }
+{
+    let a = writing_portions::write_portion(out, at, kind, name, information);
+    let n = f.length;
+    let b = writing_messages::write_components(out, a, n);
+    return outgoing::write_sent(out, b, t, p, c, f.fits);
+}
+
+// A Begin, with an AARQ.
 fn write_begin(
     out: &mut [u8],
     t: &[u8],
     p: usize,
     c: Control,
     dialogue: u32,
-    fits: bool,
-    n: usize,
+    name: &[u8],
+    information: &[u8],
+    f: Follow,
 ) -> usize
-    requires { ⌜ Holds (now t) p c × Sends (placeAt (view (now t)) p) fits n × (272 ≤ length (now out)) ⌝ }
-    ensures is { λ r. ⌜ Wrote (now (out .entry)) 0 (beginOctets (idOctets dialogue) (sentComponents (placeAt (view (now (t .entry))) p))) r (now (out .exit)) ⌝ }
+    requires { ⌜ Holds (now t) p c × Follows (placeAt (view (now t)) p) 2 (now name) (now information) (f .portion) (f .fits) (f .length) × (272 ≤ length (now out)) ⌝ }
+    ensures is { λ r. ⌜ Wrote (now (out .entry)) 0 (beginOctets (idOctets dialogue) (portionBy (formFor 2) (now (name .entry)) (now (information .entry))) (sentComponents (placeAt (view (now (t .entry))) p) (f .fits))) r (now (out .exit)) ⌝ }
     ensures within { λ r. ⌜ r ≤ 272 ⌝ }
 {
-    let a = writing_messages::begin_head(out, 0, dialogue, n);
-    return outgoing::write_sent(out, a, t, p, c, fits);
+    let m = rest_size(f);
+    let a = writing_messages::begin_front(out, 0, dialogue, m);
+    return write_rest(out, a, t, p, c, 2, name, information, f);
 }
 
-// A Continue with the n octets that are sent.
+// A Continue, with an AARE.
 fn write_continue(
     out: &mut [u8],
     t: &[u8],
     p: usize,
     c: Control,
     dialogue: u32,
-    fits: bool,
-    n: usize,
+    name: &[u8],
+    information: &[u8],
+    f: Follow,
 ) -> usize
-    requires { ⌜ Holds (now t) p c × Sends (placeAt (view (now t)) p) fits n × (272 ≤ length (now out)) ⌝ }
-    ensures is { λ r. ⌜ Wrote (now (out .entry)) 0 (continueOctets (idOctets dialogue) (peerOf (placeAt (view (now (t .entry))) p .control)) (sentComponents (placeAt (view (now (t .entry))) p))) r (now (out .exit)) ⌝ }
+    requires { ⌜ Holds (now t) p c × Follows (placeAt (view (now t)) p) 3 (now name) (now information) (f .portion) (f .fits) (f .length) × (272 ≤ length (now out)) ⌝ }
+    ensures is { λ r. ⌜ Wrote (now (out .entry)) 0 (continueOctets (idOctets dialogue) (peerOf (placeAt (view (now (t .entry))) p .control)) (portionBy (formFor 3) (now (name .entry)) (now (information .entry))) (sentComponents (placeAt (view (now (t .entry))) p) (f .fits))) r (now (out .exit)) ⌝ }
     ensures within { λ r. ⌜ r ≤ 272 ⌝ }
 {
+    let m = rest_size(f);
     let peer = c.peer;
-    let a = writing_messages::continue_head(out, 0, dialogue, peer, c.peerlen as usize, n);
-    return outgoing::write_sent(out, a, t, p, c, fits);
+    let a = writing_messages::continue_front(out, 0, dialogue, peer, c.peerlen as usize, m);
+    return write_rest(out, a, t, p, c, 3, name, information, f);
 }
 
-// An End with the n octets that are sent.
-fn write_end(out: &mut [u8], t: &[u8], p: usize, c: Control, fits: bool, n: usize) -> usize
-    requires { ⌜ Holds (now t) p c × Sends (placeAt (view (now t)) p) fits n × (272 ≤ length (now out)) ⌝ }
-    ensures is { λ r. ⌜ Wrote (now (out .entry)) 0 (endOctets (peerOf (placeAt (view (now (t .entry))) p .control)) (sentComponents (placeAt (view (now (t .entry))) p))) r (now (out .exit)) ⌝ }
+// An End, with an AARE.
+fn write_end(
+    out: &mut [u8],
+    t: &[u8],
+    p: usize,
+    c: Control,
+    name: &[u8],
+    information: &[u8],
+    f: Follow,
+) -> usize
+    requires { ⌜ Holds (now t) p c × Follows (placeAt (view (now t)) p) 3 (now name) (now information) (f .portion) (f .fits) (f .length) × (272 ≤ length (now out)) ⌝ }
+    ensures is { λ r. ⌜ Wrote (now (out .entry)) 0 (endOctets (peerOf (placeAt (view (now (t .entry))) p .control)) (portionBy (formFor 3) (now (name .entry)) (now (information .entry))) (sentComponents (placeAt (view (now (t .entry))) p) (f .fits))) r (now (out .exit)) ⌝ }
     ensures within { λ r. ⌜ r ≤ 272 ⌝ }
 {
+    let m = rest_size(f);
     let peer = c.peer;
-    let a = writing_messages::end_head(out, 0, peer, c.peerlen as usize, n);
-    return outgoing::write_sent(out, a, t, p, c, fits);
+    let a = writing_messages::end_front(out, 0, peer, c.peerlen as usize, m);
+    return write_rest(out, a, t, p, c, 3, name, information, f);
+}
+
+// A Unidirectional, with an AUDT.
+fn write_uni(
+    out: &mut [u8],
+    t: &[u8],
+    p: usize,
+    c: Control,
+    name: &[u8],
+    information: &[u8],
+    f: Follow,
+) -> usize
+    requires { ⌜ Holds (now t) p c × Follows (placeAt (view (now t)) p) 5 (now name) (now information) (f .portion) (f .fits) (f .length) × (272 ≤ length (now out)) ⌝ }
+    ensures is { λ r. ⌜ Wrote (now (out .entry)) 0 (uniOctets (portionBy (formFor 5) (now (name .entry)) (now (information .entry))) (sentComponents (placeAt (view (now (t .entry))) p) (f .fits))) r (now (out .exit)) ⌝ }
+    ensures within { λ r. ⌜ r ≤ 272 ⌝ }
+{
+    let m = rest_size(f);
+    let a = writing_messages::uni_front(out, 0, m);
+    return write_rest(out, a, t, p, c, 5, name, information, f);
 }
 
 // "Begin (to Sent) .. need Open."
-pub fn send_begin(table: &mut [u8], service: u32, dialogue: u32, space: &mut [u8]) -> Reply
-    ensures { λ r. ⌜ Gives (outcome (record { table = now (table .entry); rows = []; space = now (space .entry) }) (OnDialogue service dialogue Begin)) (r .answer) (r .rows) (r .length) (r .dialogue) (record { table = now (table .exit); rows = []; space = now (space .exit) }) ⌝ }
+pub fn send_begin(
+    table: &mut [u8],
+    service: u32,
+    dialogue: u32,
+    name: &[u8],
+    information: &[u8],
+    space: &mut [u8],
+) -> Reply
+    ensures { λ r. ⌜ Gives (outcome (record { table = now (table .entry); rows = []; space = now (space .entry) }) (OnDialogue service dialogue (Begin (now (name .entry)) (now (information .entry))))) (r .answer) (r .rows) (r .length) (r .dialogue) (record { table = now (table .exit); rows = []; space = now (space .exit) }) ⌝ }
 {
     let m = start(table, space.len(), service, dialogue);
     let answer = m.answer;
@@ -105,19 +228,27 @@ pub fn send_begin(table: &mut [u8], service: u32, dialogue: u32, space: &mut [u8
     }
     let p = m.place;
     let c = places::load(table, p);
-    if c.state != 1 {
-        return entry::refused(6);
+    let state = open_refusal(c.state);
+    let refusal = refusal_with(table, p, c, state, 2, name, information);
+    if refusal != 0 {
+        return entry::refused(refusal);
     }
-    let s = outgoing::sent_of(table, p, c);
-    let fits = s.fits;
-    let e = write_begin(space, table, p, c, dialogue, fits, s.length);
-    outgoing::leave_at(table, p, c, 2, fits);
+    let f = what_follows(table, p, c, 2, name, information);
+    let e = write_begin(space, table, p, c, dialogue, name, information, f);
+    outgoing::leave_at(table, p, c, 2, f.fits);
     return entry::done(0, e as u32);
 }
 
 // "Continue (to Active) .. need Received or Active."
-pub fn send_continue(table: &mut [u8], service: u32, dialogue: u32, space: &mut [u8]) -> Reply
-    ensures { λ r. ⌜ Gives (outcome (record { table = now (table .entry); rows = []; space = now (space .entry) }) (OnDialogue service dialogue Continue)) (r .answer) (r .rows) (r .length) (r .dialogue) (record { table = now (table .exit); rows = []; space = now (space .exit) }) ⌝ }
+pub fn send_continue(
+    table: &mut [u8],
+    service: u32,
+    dialogue: u32,
+    name: &[u8],
+    information: &[u8],
+    space: &mut [u8],
+) -> Reply
+    ensures { λ r. ⌜ Gives (outcome (record { table = now (table .entry); rows = []; space = now (space .entry) }) (OnDialogue service dialogue (Continue (now (name .entry)) (now (information .entry))))) (r .answer) (r .rows) (r .length) (r .dialogue) (record { table = now (table .exit); rows = []; space = now (space .exit) }) ⌝ }
 {
     let m = start(table, space.len(), service, dialogue);
     let answer = m.answer;
@@ -126,20 +257,27 @@ pub fn send_continue(table: &mut [u8], service: u32, dialogue: u32, space: &mut 
     }
     let p = m.place;
     let c = places::load(table, p);
-    let refusal = peer_refusal(c.state);
+    let state = peer_refusal(c.state);
+    let refusal = refusal_with(table, p, c, state, 3, name, information);
     if refusal != 0 {
         return entry::refused(refusal);
     }
-    let s = outgoing::sent_of(table, p, c);
-    let fits = s.fits;
-    let e = write_continue(space, table, p, c, dialogue, fits, s.length);
-    outgoing::leave_at(table, p, c, 4, fits);
+    let f = what_follows(table, p, c, 3, name, information);
+    let e = write_continue(space, table, p, c, dialogue, name, information, f);
+    outgoing::leave_at(table, p, c, 4, f.fits);
     return entry::done(0, e as u32);
 }
 
 // "basic end (frees) need Received or Active"; "An end drops what it didn't send."
-pub fn send_end(table: &mut [u8], service: u32, dialogue: u32, space: &mut [u8]) -> Reply
-    ensures { λ r. ⌜ Gives (outcome (record { table = now (table .entry); rows = []; space = now (space .entry) }) (OnDialogue service dialogue End)) (r .answer) (r .rows) (r .length) (r .dialogue) (record { table = now (table .exit); rows = []; space = now (space .exit) }) ⌝ }
+pub fn send_end(
+    table: &mut [u8],
+    service: u32,
+    dialogue: u32,
+    name: &[u8],
+    information: &[u8],
+    space: &mut [u8],
+) -> Reply
+    ensures { λ r. ⌜ Gives (outcome (record { table = now (table .entry); rows = []; space = now (space .entry) }) (OnDialogue service dialogue (End (now (name .entry)) (now (information .entry))))) (r .answer) (r .rows) (r .length) (r .dialogue) (record { table = now (table .exit); rows = []; space = now (space .exit) }) ⌝ }
 {
     let m = start(table, space.len(), service, dialogue);
     let answer = m.answer;
@@ -148,29 +286,27 @@ pub fn send_end(table: &mut [u8], service: u32, dialogue: u32, space: &mut [u8])
     }
     let p = m.place;
     let c = places::load(table, p);
-    let refusal = peer_refusal(c.state);
+    let state = peer_refusal(c.state);
+    let refusal = refusal_with(table, p, c, state, 3, name, information);
     if refusal != 0 {
         return entry::refused(refusal);
     }
-    let s = outgoing::sent_of(table, p, c);
-    let e = write_end(space, table, p, c, s.fits, s.length);
+    let f = what_follows(table, p, c, 3, name, information);
+    let e = write_end(space, table, p, c, name, information, f);
     places::free_at(table, p);
     return entry::done(0, e as u32);
 }
 
-// A Unidirectional with the n octets that are sent.
-fn write_uni(out: &mut [u8], t: &[u8], p: usize, c: Control, fits: bool, n: usize) -> usize
-    requires { ⌜ Holds (now t) p c × Sends (placeAt (view (now t)) p) fits n × (272 ≤ length (now out)) ⌝ }
-    ensures is { λ r. ⌜ Wrote (now (out .entry)) 0 (uniOctets (sentComponents (placeAt (view (now (t .entry))) p))) r (now (out .exit)) ⌝ }
-    ensures within { λ r. ⌜ r ≤ 272 ⌝ }
-{
-    let a = writing_messages::uni_head(out, 0, n);
-    return outgoing::write_sent(out, a, t, p, c, fits);
-}
-
 // "Unidirectional (frees) need Open": refused too with no component or with one not of class 4.
-pub fn send_unidirectional(table: &mut [u8], service: u32, dialogue: u32, space: &mut [u8]) -> Reply
-    ensures { λ r. ⌜ Gives (outcome (record { table = now (table .entry); rows = []; space = now (space .entry) }) (OnDialogue service dialogue Unidirectional)) (r .answer) (r .rows) (r .length) (r .dialogue) (record { table = now (table .exit); rows = []; space = now (space .exit) }) ⌝ }
+pub fn send_unidirectional(
+    table: &mut [u8],
+    service: u32,
+    dialogue: u32,
+    name: &[u8],
+    information: &[u8],
+    space: &mut [u8],
+) -> Reply
+    ensures { λ r. ⌜ Gives (outcome (record { table = now (table .entry); rows = []; space = now (space .entry) }) (OnDialogue service dialogue (Unidirectional (now (name .entry)) (now (information .entry))))) (r .answer) (r .rows) (r .length) (r .dialogue) (record { table = now (table .exit); rows = []; space = now (space .exit) }) ⌝ }
 {
     let m = start(table, space.len(), service, dialogue);
     let answer = m.answer;
@@ -179,19 +315,20 @@ pub fn send_unidirectional(table: &mut [u8], service: u32, dialogue: u32, space:
     }
     let p = m.place;
     let c = places::load(table, p);
-    let refusal = outgoing::uni_refusal(table, p, c);
+    let state = outgoing::uni_refusal(table, p, c);
+    let refusal = refusal_with(table, p, c, state, 5, name, information);
     if refusal != 0 {
         return entry::refused(refusal);
     }
-    let s = outgoing::sent_of(table, p, c);
-    let e = write_uni(space, table, p, c, s.fits, s.length);
+    let f = what_follows(table, p, c, 5, name, information);
+    let e = write_uni(space, table, p, c, name, information, f);
     places::free_at(table, p);
     return entry::done(0, e as u32);
 }
 
 // A user's Abort: it "writes a message only in Received and Active".
 fn write_abort(out: &mut [u8], c: Control, portion: &[u8]) -> usize
-    requires { ⌜ FineControl c × (length (now portion) ≤ 240) × (272 ≤ length (now out)) ⌝ }
+    requires { ⌜ FineControl c × (length (now portion) ≤ 240) × (length (abortPortion (now portion)) ≤ 240) × (272 ≤ length (now out)) ⌝ }
     ensures is { λ r. ⌜ Wrote (now (out .entry)) 0 (abortBy c (now (portion .entry))) r (now (out .exit)) ⌝ }
     ensures within { λ r. ⌜ r ≤ 272 ⌝ }
 {
@@ -199,10 +336,13 @@ fn write_abort(out: &mut [u8], c: Control, portion: &[u8]) -> usize
         return 0;
     }
     let peer = c.peer;
-    return writing_messages::write_user_abort(out, 0, peer, c.peerlen as usize, portion);
+    let m = outgoing::abort_size(portion);
+    let a = writing_messages::abort_front(out, 0, peer, c.peerlen as usize, m);
+    return outgoing::write_aborted(out, a, portion);
 }
 
-// "Prearranged end and user abort (both free): any; only abort takes a dialogue portion, a whole 6B element or none".
+// "Prearranged end and user abort (both free): any; only abort takes a dialogue portion, a whole 6B element or none"; 02 a: or one BE
+// element, sent in an ABRT.
 pub fn send_abort(
     table: &mut [u8],
     service: u32,

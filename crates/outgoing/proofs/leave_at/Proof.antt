@@ -27,7 +27,7 @@ returns c = let s = c .before .before .before .before .before .before in
     let t : List ℕ = s .args .t .now in
     c .before .before .sent-at .ensures
     ∙ ap (λ (d : Control). encode (withPlace (view t) (s .args .p) (withWaiting d []))) (c .before .before .before .before .control-after .ensures)
-    ∙ ap (λ (x : Place). encode (withPlace (view t) (s .args .p) x)) (after-is t (s .args .p) (s .args .c) (s .pre .0) (s .args .state) (s .args .fits) (s .pre .2))
+    ∙ ap (λ (x : Place). encode (withPlace (view t) (s .args .p) x)) (after-is t (s .args .p) (s .args .c) (s .pre .0) (s .args .state) (s .args .fits))
 
 pub leave-at-spec : {M : Type 1} → statement M
 leave-at-spec = tie.close (tie.spec control-after-requires sent-at-requires same-length returns)

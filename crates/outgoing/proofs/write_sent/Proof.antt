@@ -1,4 +1,4 @@
-use mathlib.Core.Path.{refl, sym, ap, _∙_}
+use mathlib.Core.Path.{refl, ap, _∙_}
 use mathlib.Core.List.{List, _++_}
 use Prim.Native.Nat.{ℕ}
 use native.Mathlib.Omega.{arith}
@@ -18,14 +18,14 @@ waiting-requires c κs = search needs
 
 copy-at-requires : tie.Need-copy-at-requires
 copy-at-requires c κs = let s = c .before .before .before .before in
-    omega (arith, ap length (c .before .waiting .ensures), sent-least (placeAt (view (s .args .t .now)) (s .args .p)))
+    omega (arith, ap length (c .before .waiting .ensures), sent-least (placeAt (view (s .args .t .now)) (s .args .p)) (s .args .fits))
 
 write-rejects-requires : tie.Need-write-rejects-requires
 write-rejects-requires c κs = let s = c .before .before .before .before .before .before .before .before .before in
     let copy = c .before .before .before .before .copy-at in
     let x : Place = placeAt (view (s .args .t .now)) (s .args .p) in (
       holds-fine (s .pre .0),
-      sent-room x (s .args .c) (c .before .before .before .before .before .before .waiting .result .now) (s .args .at) (copy .result) (length (copy .last .0)) (sym (s .pre .1) ∙ c .before .if1 .taken) (s .pre .0 .control)
+      sent-room x (s .args .fits) (s .args .c) (c .before .before .before .before .before .before .waiting .result .now) (s .args .at) (copy .result) (length (copy .last .0)) (c .before .if1 .taken) (s .pre .0 .control)
           (c .before .before .before .before .before .before .waiting .ensures) (copy .ensures .past) (omega (arith, copy .ensures .long)),
     )
 
@@ -37,7 +37,7 @@ returns c = let s = c .before .before .before .before .before .before .before .b
     let x : Place = placeAt (view (s .args .t .now)) (s .args .p) in
     wrote-as (wrote-more (c .before .before .before .before .before .before .before .copy-at .ensures) refl (c .before .before .write-rejects .ensures))
     (ap (λ (w : List ℕ). w ++ waitingRejects (s .args .c)) (c .before .before .before .before .before .before .before .before .before .waiting .ensures)
-    ∙ ap (λ (k : Control). x .waiting ++ waitingRejects k) (s .pre .0 .control) ∙ sent-all x (sym (s .pre .1) ∙ c .before .before .before .before .if1 .taken))
+    ∙ ap (λ (k : Control). x .waiting ++ waitingRejects k) (s .pre .0 .control) ∙ sent-all x (s .args .fits) (c .before .before .before .before .if1 .taken))
 
 same-length-2 : tie.Need-same-length-2
 same-length-2 c = search needs
@@ -46,7 +46,7 @@ returns-2 : tie.Need-returns-2
 returns-2 c = let s = c .before .before .before .before .before .before .before .before in
     let x : Place = placeAt (view (s .args .t .now)) (s .args .p) in
     wrote-as (c .before .before .before .copy-at .ensures)
-    (c .before .before .before .before .before .waiting .ensures ∙ sent-none x (sym (s .pre .1) ∙ c .if1 .left))
+    (c .before .before .before .before .before .waiting .ensures ∙ sent-none x (s .args .fits) (c .if1 .left))
 
 pub write-sent-spec : {M : Type 1} → statement M
 write-sent-spec =

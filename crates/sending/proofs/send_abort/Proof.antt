@@ -6,7 +6,8 @@ use Rattle.paper.specs.Dialogues.Request.{Abort}
 use Rattle.paper.specs.Calls.{placeAt}
 use Rattle.paper.specs.Layout.{view}
 use Rattle.outgoing.specs.Sent.{holds-fine}
-use Rattle.sending.specs.Starts.{started-holds, send-refused, send-no, send-done, abort-is, abort-octets}
+use Rattle.outgoing.specs.Refused.{abort-octets}
+use Rattle.sending.specs.Starts.{started-holds, send-refused, send-no, send-done, abort-is}
 use borrow.Author.Needs.{needs}
 use Rattle.sending.proofs.send_abort.Statement.{statement}
 use Rattle.sending.proofs.send_abort.Tie as tie
@@ -60,7 +61,8 @@ write-abort-requires c κs =
     let load = c .before .load in
     let abort-refusal = c .before .before .before .before .abort-refusal in
     let if2 = c .before .before .before .if2 in
-    (holds-fine (started-holds (start .ensures) (if1 .left) (load .ensures)), abort-octets (args .portion .now) (sym (if2 .left) ∙ abort-refusal .ensures), start .ensures .room (if1 .left))
+    let short = abort-octets (args .portion .now) (sym (if2 .left) ∙ abort-refusal .ensures) in
+    (holds-fine (started-holds (start .ensures) (if1 .left) (load .ensures)), short .0, short .1, start .ensures .room (if1 .left))
 
 free-at-requires : tie.Need-free-at-requires
 free-at-requires c κs =

@@ -1,11 +1,15 @@
 use mathlib.Core.Path.{refl, sym, _∙_}
 use native.Mathlib.Omega.{arith}
 use Rattle.paper.specs.Writing.{uniOctets}
-use Rattle.paper.specs.Dialogues.{Place, sentComponents, freed, does, refusal}
+use Rattle.paper.specs.Portions.{portionBy}
+use Rattle.paper.specs.Dialogues.{Place, sentComponents, freed, portionRefusal}
 use Rattle.paper.specs.Dialogues.Request.{Unidirectional}
 use Rattle.paper.specs.Calls.{placeAt}
 use Rattle.paper.specs.Layout.{view}
-use Rattle.sending.specs.Starts.{started-holds, send-refused, send-no, send-done}
+use Rattle.writing_portions.specs.Forms.{formFor}
+use Rattle.given.specs.Portion.{first-zero}
+use Rattle.sending.specs.Starts.{started-holds, send-refused, send-no, send-done, uni-number}
+use Rattle.sending.specs.Messages.{uni-does}
 use borrow.Author.Needs.{needs}
 use Rattle.sending.proofs.send_unidirectional.Statement.{statement}
 use Rattle.sending.proofs.send_unidirectional.Tie as tie
@@ -21,10 +25,10 @@ same-length c = search needs
 
 returns : tie.Need-returns
 returns c =
-    let args = c .before .before .before .before .before .before .args in
+    let args = c .before .before .before .before .before .before .before .before .args in
     let start = c .before .before .start in
     let refused = c .refused in
-    send-refused (args .table .now) (args .space .now) (args .service) (args .dialogue) Unidirectional refl (start .result .answer) (start .result .place) (start .ensures) (omega arith) (refused .ensures)
+    send-refused (args .table .now) (args .space .now) (args .service) (args .dialogue) (Unidirectional (args .name .now) (args .information .now)) refl (start .result .answer) (start .result .place) (start .ensures) (omega arith) (refused .ensures)
 
 load-requires : tie.Need-load-requires
 load-requires c κs =
@@ -39,6 +43,13 @@ uni-refusal-requires c κs =
     let load = c .before .load in
     started-holds (start .ensures) (if1 .left) (load .ensures)
 
+refusal-with-requires : tie.Need-refusal-with-requires
+refusal-with-requires c κs =
+    let start = c .before .before .before .before .before .before .start in
+    let if1 = c .before .before .before .before .before .if1 in
+    let load = c .before .before .before .load in
+    (started-holds (start .ensures) (if1 .left) (load .ensures), λ z. omega (arith, z))
+
 refused-requires-2 : tie.Need-refused-requires-2
 refused-requires-2 c κs = search needs
 
@@ -46,37 +57,42 @@ same-length-2 : tie.Need-same-length-2
 same-length-2 c = search needs
 
 returns-2 : tie.Need-returns-2
-unfolding refusal
 returns-2 c =
-    let args = c .before .before .before .before .before .before .before .before .before .before .before .args in
-    let start = c .before .before .before .before .before .before .before .start in
-    let if1 = c .before .before .before .before .before .before .if1 in
-    let load = c .before .before .before .before .load in
-    let uni-refusal = c .before .before .uni-refusal in
+    let args = c .before .before .before .before .before .before .before .before .before .before .before .before .before .before .before .args in
+    let start = c .before .before .before .before .before .before .before .before .before .start in
+    let if1 = c .before .before .before .before .before .before .before .before .if1 in
+    let load = c .before .before .before .before .before .before .load in
+    let uni-refusal = c .before .before .before .before .uni-refusal in
+    let refusal-with = c .before .before .refusal-with in
     let refused2 = c .refused2 in
     let x : Place = placeAt (view (args .table .now)) (start .result .place) in
-    send-no (args .table .now) (args .space .now) (args .service) (args .dialogue) Unidirectional refl (start .result .answer) (start .result .place) (start .ensures) (if1 .left) (uni-refusal .result)
-    (uni-refusal .ensures) (omega arith) (refused2 .ensures)
+    send-no (args .table .now) (args .space .now) (args .service) (args .dialogue) (Unidirectional (args .name .now) (args .information .now)) refl (start .result .answer) (start .result .place) (start .ensures) (if1 .left) (refusal-with .result)
+    (uni-number x (args .name .now) (args .information .now) (uni-refusal .result) (refusal-with .result) (uni-refusal .ensures) (refusal-with .ensures)) (omega arith) (refused2 .ensures)
 
-sent-of-requires : tie.Need-sent-of-requires
-sent-of-requires c κs =
-    let start = c .before .before .before .before .before .before .before .start in
-    let if1 = c .before .before .before .before .before .before .if1 in
-    let load = c .before .before .before .before .load in
-    started-holds (start .ensures) (if1 .left) (load .ensures)
+what-follows-requires : tie.Need-what-follows-requires
+what-follows-requires c κs =
+    let args = c .before .before .before .before .before .before .before .before .before .before .before .before .before .before .before .args in
+    let start = c .before .before .before .before .before .before .before .before .before .start in
+    let if1 = c .before .before .before .before .before .before .before .before .if1 in
+    let load = c .before .before .before .before .before .before .load in
+    let uni-refusal = c .before .before .before .before .uni-refusal in
+    let refusal-with = c .before .before .refusal-with in
+    let if2 = c .before .if2 in
+    let x : Place = placeAt (view (args .table .now)) (start .result .place) in
+    (started-holds (start .ensures) (if1 .left) (load .ensures), (λ z. omega (arith, z)), first-zero (uni-refusal .result) (portionRefusal x (formFor 5) (args .name .now) (args .information .now)) (sym (if2 .left) ∙ refusal-with .ensures) .1)
 
 write-uni-requires : tie.Need-write-uni-requires
 write-uni-requires c κs =
-    let start = c .before .before .before .before .before .before .before .before .before .before .start in
-    let if1 = c .before .before .before .before .before .before .before .before .before .if1 in
-    let load = c .before .before .before .before .before .before .before .load in
-    let sent-of = c .before .before .sent-of in
-    (started-holds (start .ensures) (if1 .left) (load .ensures), sent-of .ensures, start .ensures .room (if1 .left))
+    let start = c .before .before .before .before .before .before .before .before .before .before .before .before .start in
+    let if1 = c .before .before .before .before .before .before .before .before .before .before .before .if1 in
+    let load = c .before .before .before .before .before .before .before .before .before .load in
+    let what-follows = c .before .before .what-follows in
+    (started-holds (start .ensures) (if1 .left) (load .ensures), what-follows .ensures, start .ensures .room (if1 .left))
 
 free-at-requires : tie.Need-free-at-requires
 free-at-requires c κs =
-    let start = c .before .before .before .before .before .before .before .before .before .before .before .before .before .before .start in
-    let if1 = c .before .before .before .before .before .before .before .before .before .before .before .before .before .if1 in
+    let start = c .before .before .before .before .before .before .before .before .before .before .before .before .before .before .before .before .start in
+    let if1 = c .before .before .before .before .before .before .before .before .before .before .before .before .before .before .before .if1 in
     let used = start .ensures .inside (if1 .left) .used in
     (used .ready, used .small, used .told)
 
@@ -93,20 +109,23 @@ same-length-4 : tie.Need-same-length-4
 same-length-4 c = search needs
 
 returns-3 : tie.Need-returns-3
-unfolding refusal does
 returns-3 c =
-    let args = c .before .before .before .before .before .before .before .before .before .before .before .before .before .before .before .before .before .before .before .before .before .before .args in
-    let start = c .before .before .before .before .before .before .before .before .before .before .before .before .before .before .before .before .before .before .start in
-    let if1 = c .before .before .before .before .before .before .before .before .before .before .before .before .before .before .before .before .before .if1 in
-    let load = c .before .before .before .before .before .before .before .before .before .before .before .before .before .before .before .load in
-    let uni-refusal = c .before .before .before .before .before .before .before .before .before .before .before .before .before .uni-refusal in
+    let args = c .before .before .before .before .before .before .before .before .before .before .before .before .before .before .before .before .before .before .before .before .before .before .before .before .before .before .args in
+    let start = c .before .before .before .before .before .before .before .before .before .before .before .before .before .before .before .before .before .before .before .before .start in
+    let if1 = c .before .before .before .before .before .before .before .before .before .before .before .before .before .before .before .before .before .before .before .if1 in
+    let load = c .before .before .before .before .before .before .before .before .before .before .before .before .before .before .before .before .before .load in
+    let uni-refusal = c .before .before .before .before .before .before .before .before .before .before .before .before .before .before .before .uni-refusal in
+    let refusal-with = c .before .before .before .before .before .before .before .before .before .before .before .before .before .refusal-with in
     let if2 = c .before .before .before .before .before .before .before .before .before .before .before .before .if2 in
+    let what-follows = c .before .before .before .before .before .before .before .before .before .before .what-follows in
     let write-uni = c .before .before .before .before .before .before .before .write-uni in
     let free-at = c .before .before .before .free-at in
     let done = c .done in
     let x : Place = placeAt (view (args .table .now)) (start .result .place) in
-    send-done (args .table .now) (args .space .now) (args .service) (args .dialogue) Unidirectional refl (start .result .answer) (start .result .place) (start .ensures) (if1 .left)
-    (freed x) (uniOctets (sentComponents x)) (sym (if2 .left) ∙ uni-refusal .ensures) refl
+    let fits = what-follows .result .fits in
+    send-done (args .table .now) (args .space .now) (args .service) (args .dialogue) (Unidirectional (args .name .now) (args .information .now)) refl (start .result .answer) (start .result .place) (start .ensures) (if1 .left)
+    (freed x) (uniOctets (portionBy (formFor 5) (args .name .now) (args .information .now)) (sentComponents x fits)) (sym (if2 .left) ∙ uni-number x (args .name .now) (args .information .now) (uni-refusal .result) (refusal-with .result) (uni-refusal .ensures) (refusal-with .ensures))
+    (uni-does (args .dialogue) x (args .name .now) (args .information .now) (what-follows .ensures))
     (write-uni .result) (free-at .last .0) (write-uni .last .0) (free-at .ensures) (write-uni .ensures .0) (done .ensures)
 
 pub send-unidirectional-spec : {M : Type 1} → statement M
@@ -119,10 +138,11 @@ send-unidirectional-spec =
     returns
     load-requires
     uni-refusal-requires
+    refusal-with-requires
     refused-requires-2
     same-length-2
     returns-2
-    sent-of-requires
+    what-follows-requires
     write-uni-requires
     free-at-requires
     cast-done
