@@ -4,6 +4,7 @@ use super::random::Random;
 use super::samples;
 use crate::calls::Request;
 use crate::dialogue::{Dialogue, State};
+use crate::given::Given;
 use crate::invocations;
 
 fn own_ids(dialogue: &Dialogue) -> Vec<i8> {
@@ -38,11 +39,15 @@ fn new_id(random: &mut Random, dialogue: &Dialogue) -> i8 {
 pub fn fitting(random: &mut Random, dialogue: &Dialogue) -> Request {
     let sending = random.chance(40);
     match dialogue.state {
-        State::Open if sending => random.pick(&[Request::Begin, Request::Begin, Request::Unidirectional]),
+        State::Open if sending => random.pick(&[
+            Request::Begin(Given::NONE),
+            Request::Begin(Given::NONE),
+            Request::Unidirectional(Given::NONE),
+        ]),
         State::Open => invoke(random, dialogue),
         State::Sent if random.chance(4) => Request::NoReaction,
-        State::Received | State::Active if sending && random.chance(12) => Request::End,
-        State::Received | State::Active if sending => Request::Continue,
+        State::Received | State::Active if sending && random.chance(12) => Request::End(Given::NONE),
+        State::Received | State::Active if sending => Request::Continue(Given::NONE),
         _ => component_request(random, dialogue),
     }
 }
@@ -127,11 +132,11 @@ pub fn any_request(random: &mut Random, dialogue: &Dialogue) -> Request {
         5 => Request::Timeout { id },
         6 => Request::RejectTimeout { id },
         7 => Request::NoReaction,
-        8 => Request::Begin,
-        9 => Request::Continue,
-        10 => Request::Unidirectional,
+        8 => Request::Begin(Given::NONE),
+        9 => Request::Continue(Given::NONE),
+        10 => Request::Unidirectional(Given::NONE),
         11 => Request::Abort { portion: odd_portion(random) },
-        12 if random.chance(30) => random.pick(&[Request::Prearranged, Request::End]),
+        12 if random.chance(30) => random.pick(&[Request::Prearranged, Request::End(Given::NONE)]),
         _ => component_request(random, dialogue),
     }
 }

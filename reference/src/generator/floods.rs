@@ -5,6 +5,7 @@ use super::recorder::Recorder;
 use super::samples;
 use crate::calls::{Call, Request};
 use crate::dialogue::State;
+use crate::given::Given;
 use crate::shares::SERVICES;
 
 pub fn sequences(random: &mut Random) -> Vec<Recorder> {
@@ -86,14 +87,14 @@ fn give_back(recorder: &mut Recorder, random: &mut Random, service: u32, local_i
         (0, _) => Request::Abort { portion: Vec::new() },
         (1, _) => Request::Prearranged,
         (2, State::Sent) => Request::NoReaction,
-        (_, State::Open) => Request::Begin,
-        (3, _) => Request::Continue,
+        (_, State::Open) => Request::Begin(Given::NONE),
+        (3, _) => Request::Continue(Given::NONE),
         (4, State::Active | State::Sent) => {
             let abort = samples::abort(random, &local_id.to_be_bytes());
             recorder.receive(service, abort.encode());
             return;
         }
-        _ => Request::End,
+        _ => Request::End(Given::NONE),
     };
     recorder.request(service, local_id, end);
 }

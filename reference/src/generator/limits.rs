@@ -4,6 +4,7 @@ use super::random::Random;
 use super::recorder::{continue_with, end_with, Recorder};
 use crate::calls::Request;
 use crate::coding;
+use crate::given::Given;
 use crate::writing;
 
 const SERVICE: u32 = 11;
@@ -103,7 +104,7 @@ fn waiting(recorder: &mut Recorder, random: &mut Random, local_id: u32) {
 
 /// Up to ten faulty or unexpected components, then as many octets as just fit beside their rejects, or do not.
 fn rejects(recorder: &mut Recorder, random: &mut Random, local_id: u32) {
-    recorder.request(SERVICE, local_id, Request::Begin);
+    recorder.request(SERVICE, local_id, Request::Begin(Given::NONE));
     for _ in 0..random.within(6, 10) {
         let component = rejected_component(random);
         recorder.receive(SERVICE, continue_with(random, local_id, &component));
@@ -155,9 +156,15 @@ fn message_size(recorder: &mut Recorder, random: &mut Random) {
 }
 
 fn send(recorder: &mut Recorder, random: &mut Random, local_id: u32) {
-    let requests = [Request::Continue, Request::Continue, Request::Continue, Request::Begin, Request::Unidirectional];
+    let requests = [
+        Request::Continue(Given::NONE),
+        Request::Continue(Given::NONE),
+        Request::Continue(Given::NONE),
+        Request::Begin(Given::NONE),
+        Request::Unidirectional(Given::NONE),
+    ];
     recorder.request(SERVICE, local_id, random.pick(&requests));
     if random.chance(10) {
-        recorder.request(SERVICE, local_id, Request::End);
+        recorder.request(SERVICE, local_id, Request::End(Given::NONE));
     }
 }

@@ -6,6 +6,7 @@ use super::recorder::Recorder;
 use super::samples::{self, Parts};
 use super::tree::{any_node, edge_length, leaf, Tree};
 use crate::calls::{Reply, Request};
+use crate::given::Given;
 
 const SERVICE: u32 = 9;
 
@@ -30,7 +31,8 @@ pub fn sequences(random: &mut Random) -> Vec<Recorder> {
 /// A dialogue that a Begin opened sends its rejects and goes.
 fn after(recorder: &mut Recorder, random: &mut Random, reply: &Reply) {
     if let Some(row) = reply.rows.first().filter(|row| row.kind == crate::rows::BEGIN) {
-        let end = random.pick(&[Request::End, Request::Prearranged, Request::Abort { portion: Vec::new() }]);
+        let end =
+            random.pick(&[Request::End(Given::NONE), Request::Prearranged, Request::Abort { portion: Vec::new() }]);
         recorder.request(SERVICE, row.local_id, end);
     }
 }
@@ -43,7 +45,7 @@ fn given(recorder: &mut Recorder, random: &mut Random, local_id: u32) {
         0 => Request::Invoke { id: samples::any_id(random), linked: Some(127), class: 2, operation, parameter },
         1 => Request::Result { id: -128, last: random.chance(50), operation, parameter },
         2 => Request::Error { id: 127, error: operation, parameter },
-        3 => Request::Continue,
+        3 => Request::Continue(Given::NONE),
         4 if random.chance(40) => Request::Abort { portion: odd_portion(random) },
         _ => return,
     };

@@ -4,6 +4,7 @@ use super::random::Random;
 use super::samples;
 use crate::calls::{self, Call, Reply, Request};
 use crate::dialogue::Dialogue;
+use crate::given::Given;
 use crate::reader;
 use crate::shares::SERVICES;
 use crate::table::{Table, PLACES};
@@ -90,7 +91,7 @@ impl Recorder {
     /// A dialogue brought to Active by a peer's Continue.
     pub fn active(&mut self, random: &mut Random, service: u32) -> Option<u32> {
         let local_id = self.open(service)?;
-        self.request(service, local_id, Request::Begin);
+        self.request(service, local_id, Request::Begin(Given::NONE));
         self.receive(service, continue_with(random, local_id, &[]));
         Some(local_id)
     }
