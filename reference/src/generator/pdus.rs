@@ -13,27 +13,41 @@ const CONSTRUCTORS: [u8; 15] =
 
 /// A portion with a PDU of any kind, in any of the length forms.
 pub fn sound(random: &mut Random) -> Tree {
-    let (identifier, tag) =
-        random.pick(&[(STRUCTURED, 0x60), (STRUCTURED, 0x61), (STRUCTURED, 0x64), (UNSTRUCTURED, 0x60)]);
-    let mut pieces = match tag {
-        0x60 => name(random),
-        0x61 => response(random),
-        _ => vec![leaf(0x80, &[random.below(2) as u8])],
+    let kind = any_kind(random);
+    let pdu = pdu(random, kind, 0);
+    with_frame(random, kind, pdu)
+}
+
+/// An object identifier, and the tag of a PDU that goes with it.
+fn any_kind(random: &mut Random) -> ([u8; 7], u8) {
+    random.pick(&[(STRUCTURED, 0x60), (STRUCTURED, 0x61), (STRUCTURED, 0x64), (UNSTRUCTURED, 0x60)])
+}
+
+/// A PDU without information; its values are up to so much past the last that they may have (a name: no octets).
+fn pdu(random: &mut Random, (_, tag): ([u8; 7], u8), past: usize) -> Tree {
+    let pieces = match tag {
+        0x60 => name(random, past),
+        0x61 => response(random, past),
+        _ => vec![leaf(0x80, &[random.within(0, 1 + past) as u8])],
     };
-    if random.chance(60) {
-        pieces.push(giving::information(random));
+    any_node(random, tag, pieces)
+}
+
+/// The portion of a PDU, to which an information is mostly added.
+fn with_frame(random: &mut Random, (identifier, _): ([u8; 7], u8), mut pdu: Tree) -> Tree {
+    if let Tree::Node { children, .. } = &mut pdu {
+        children.extend(random.chance(60).then(|| giving::information(random)));
     }
-    let pdu = any_node(random, tag, pieces);
     let single = any_node(random, 0xA0, vec![pdu]);
     let external = any_node(random, 0x28, vec![leaf(0x06, &identifier), single]);
     any_node(random, 0x6B, vec![external])
 }
 
 /// The A1 with the name, now and then a protocol version before it.
-fn name(random: &mut Random) -> Vec<Tree> {
+fn name(random: &mut Random, past: usize) -> Vec<Tree> {
     let versions: [&[u8]; 4] = [&[0x07, 0x80], &[0x07, 0x80], &[0x00], &[]];
     let version = random.chance(35).then(|| leaf(0x80, random.pick(&versions)));
-    let name = giving::name(random);
+    let name = if random.chance(15 * past) { leaf(0x06, &[]) } else { giving::name(random) };
     version.into_iter().chain([any_node(random, 0xA1, vec![name])]).collect()
 }
 
@@ -42,34 +56,53 @@ fn value(random: &mut Random, tag: u8, most: usize) -> Tree {
     any_node(random, tag, vec![value])
 }
 
-fn response(random: &mut Random) -> Vec<Tree> {
-    let mut pieces = name(random);
-    pieces.push(value(random, 0xA2, 1));
-    let giver = random.pick(&[0xA1, 0xA1, 0xA2]);
-    let diagnostic = value(random, giver, 2);
+fn response(random: &mut Random, past: usize) -> Vec<Tree> {
+    let mut pieces = name(random, past);
+    pieces.push(value(random, 0xA2, 1 + past));
+    let giver = if random.chance(20 * past) { random.pick(&[0xA0, 0xA3]) } else { random.pick(&[0xA1, 0xA1, 0xA2]) };
+    let diagnostic = value(random, giver, 2 + past);
     pieces.push(any_node(random, 0xA3, vec![diagnostic]));
     pieces
 }
 
 /// A sound portion, one with something else in it that is well formed too, or a damaged one.
 pub fn any(random: &mut Random) -> Tree {
-    let mut portion = sound(random);
-    match random.below(10) {
-        0..=4 => {}
-        5..=7 => {
-            for _ in 0..random.within(1, 2) {
-                twist(&mut portion, random);
-            }
+    let kind = any_kind(random);
+    match random.below(12) {
+        0 | 1 => {
+            let pdu = pdu(random, kind, 1);
+            with_frame(random, kind, pdu)
         }
-        _ => portion.damage(random),
+        2..=5 => twisted(random, kind),
+        6 => {
+            let octets = pdu(random, kind, 0).encode();
+            let mut portion = with_frame(random, kind, Tree::Raw(octets));
+            twist(&mut portion, random);
+            portion
+        }
+        7 => {
+            let mut portion = sound(random);
+            portion.damage(random);
+            portion
+        }
+        _ => sound(random),
     }
-    portion
+}
+
+/// A portion whose PDU was changed in its own pieces, or in any of its elements, before the information came to it.
+fn twisted(random: &mut Random, kind: ([u8; 7], u8)) -> Tree {
+    let mut pdu = pdu(random, kind, 0);
+    match &mut pdu {
+        Tree::Node { children, .. } if random.chance(50) => twist_children(children, random),
+        _ => twist(&mut pdu, random),
+    }
+    with_frame(random, kind, pdu)
 }
 
 /// Changes one of its elements so that what was well formed still is.
-fn twist(portion: &mut Tree, random: &mut Random) {
-    let number = random.below(portion.count());
-    let chosen = portion.find(number);
+fn twist(tree: &mut Tree, random: &mut Random) {
+    let number = random.below(tree.count());
+    let chosen = tree.find(number);
     match chosen {
         Tree::Leaf { .. } if random.chance(30) => chosen.set_tag(vec![random.pick(&PRIMITIVES)]),
         Tree::Node { .. } if random.chance(30) => chosen.set_tag(vec![random.pick(&CONSTRUCTORS)]),
@@ -106,10 +139,14 @@ fn twist_children(children: &mut Vec<Tree>, random: &mut Random) {
     }
 }
 
+/// A protocol version, also as a constructor; or a piece of another place.
 fn stray(random: &mut Random) -> Tree {
-    let primitives = [leaf(0x80, &[0]), leaf(0x80, &[7, 0x80]), leaf(0x02, &[1]), leaf(0x06, &[0x2A]), leaf(0x05, &[])];
+    if random.chance(40) {
+        return random.pick(&[leaf(0x80, &[0]), leaf(0x80, &[7, 0x80]), node(0xA0, Vec::new()), leaf(0x81, &[0])]);
+    }
     let name = node(0xA1, vec![leaf(0x06, &[0x2A])]);
     let value = |tag| node(tag, vec![leaf(0x02, &[0])]);
     let constructors = [name, value(0xA1), value(0xA2), node(0xA3, vec![value(0xA1)]), node(0xBE, Vec::new())];
-    random.pick(&[primitives, constructors].concat())
+    let primitives = [leaf(0x02, &[1]), leaf(0x06, &[0x2A]), leaf(0x05, &[])];
+    random.pick(&[&constructors[..], &primitives[..]].concat())
 }

@@ -18,7 +18,7 @@ const SERVICE: u32 = 6;
 pub fn sequences(random: &mut Random) -> Vec<Recorder> {
     let mut recorder = Recorder::open_to_all();
     for _ in 0..random.within(15, 40) {
-        match random.below(8) {
+        match random.below(9) {
             0..=2 => given(&mut recorder, random),
             3 | 4 => sized(&mut recorder, random),
             5 | 6 => received(&mut recorder, random),
@@ -115,12 +115,17 @@ fn rejects_length(dialogue: &Dialogue) -> usize {
     dialogue.rejects.iter().map(|reject| writing::reject(reject.id, reject.problem).len()).sum()
 }
 
-/// A request whose portion has this length; an abort's has it alone.
+/// A request whose portion has this length, now and then with a stray octet too; an abort's portion is measured alone.
 fn sized_request(random: &mut Random, state: State, length: usize) -> Request {
     if random.chance(12) {
         return Request::Abort { portion: giving::abort_of_length(random.within(239, 241)) };
     }
-    let mut of = |pdu| giving::of_length(random, pdu, length);
+    let stray = random.chance(15);
+    let mut of = |pdu| {
+        let mut given = giving::of_length(random, pdu, length);
+        given.information.extend(stray.then_some(0));
+        given
+    };
     let (response, request, unidirectional) = (of(Pdu::Response), of(Pdu::Request), of(Pdu::Unidirectional));
     match state {
         State::Open => random.pick(&[Request::Begin(request), Request::Unidirectional(unidirectional)]),
@@ -163,12 +168,12 @@ fn any_message(random: &mut Random, local_id: u32) -> Tree {
     samples::message(random, Parts { kind, originating, destination, portion, components })
 }
 
-/// A portion with octets of any kind around it.
+/// A few portions, each with octets of any kind around it.
 fn read_alone(recorder: &mut Recorder, random: &mut Random) {
-    let (before, after) = (random.below(5), random.below(4));
-    let portion = pdus::any(random).encode();
-    let octets = [random.octets(before), portion, random.octets(after)].concat();
-    for _ in 0..random.within(1, 4) {
+    for _ in 0..random.within(2, 8) {
+        let (before, after) = (random.below(5), random.below(4));
+        let portion = pdus::any(random).encode();
+        let octets = [random.octets(before), portion, random.octets(after)].concat();
         recorder.read_portion(random, &octets);
     }
 }
