@@ -3,9 +3,10 @@
 use super::giving;
 use super::random::Random;
 use super::tree::{any_node, leaf, node, Tree};
+use crate::given::{STRUCTURED, UNSTRUCTURED};
 
-const STRUCTURED: [u8; 7] = [0x00, 0x11, 0x86, 0x05, 0x01, 0x01, 0x01];
-const UNSTRUCTURED: [u8; 7] = [0x00, 0x11, 0x86, 0x05, 0x01, 0x02, 0x01];
+/// An object identifier, and the tag of a PDU that goes with it.
+type Kind = ([u8; 7], u8);
 
 const PRIMITIVES: [u8; 6] = [0x02, 0x04, 0x06, 0x80, 0x81, 0x9E];
 const CONSTRUCTORS: [u8; 15] =
@@ -14,27 +15,26 @@ const CONSTRUCTORS: [u8; 15] =
 /// A portion with a PDU of any kind, in any of the length forms.
 pub fn sound(random: &mut Random) -> Tree {
     let kind = any_kind(random);
-    let pdu = pdu(random, kind, 0);
+    let pdu = pdu(random, kind, false);
     with_frame(random, kind, pdu)
 }
 
-/// An object identifier, and the tag of a PDU that goes with it.
-fn any_kind(random: &mut Random) -> ([u8; 7], u8) {
+fn any_kind(random: &mut Random) -> Kind {
     random.pick(&[(STRUCTURED, 0x60), (STRUCTURED, 0x61), (STRUCTURED, 0x64), (UNSTRUCTURED, 0x60)])
 }
 
-/// A PDU without information; its values are up to so much past the last that they may have (a name: no octets).
-fn pdu(random: &mut Random, (_, tag): ([u8; 7], u8), past: usize) -> Tree {
+/// A PDU without information; an odd one may have a value just past the last, no name or another giver.
+fn pdu(random: &mut Random, (_, tag): Kind, odd: bool) -> Tree {
     let pieces = match tag {
-        0x60 => name(random, past),
-        0x61 => response(random, past),
-        _ => vec![leaf(0x80, &[random.within(0, 1 + past) as u8])],
+        0x60 => name(random, odd),
+        0x61 => response(random, odd),
+        _ => vec![leaf(0x80, &[random.within(0, 1 + usize::from(odd)) as u8])],
     };
     any_node(random, tag, pieces)
 }
 
 /// The portion of a PDU, to which an information is mostly added.
-fn with_frame(random: &mut Random, (identifier, _): ([u8; 7], u8), mut pdu: Tree) -> Tree {
+fn with_frame(random: &mut Random, (identifier, _): Kind, mut pdu: Tree) -> Tree {
     if let Tree::Node { children, .. } = &mut pdu {
         children.extend(random.chance(60).then(|| giving::information(random)));
     }
@@ -44,10 +44,10 @@ fn with_frame(random: &mut Random, (identifier, _): ([u8; 7], u8), mut pdu: Tree
 }
 
 /// The A1 with the name, now and then a protocol version before it.
-fn name(random: &mut Random, past: usize) -> Vec<Tree> {
+fn name(random: &mut Random, odd: bool) -> Vec<Tree> {
     let versions: [&[u8]; 4] = [&[0x07, 0x80], &[0x07, 0x80], &[0x00], &[]];
     let version = random.chance(35).then(|| leaf(0x80, random.pick(&versions)));
-    let name = if random.chance(15 * past) { leaf(0x06, &[]) } else { giving::name(random) };
+    let name = if odd && random.chance(15) { leaf(0x06, &[]) } else { giving::name(random) };
     version.into_iter().chain([any_node(random, 0xA1, vec![name])]).collect()
 }
 
@@ -56,11 +56,11 @@ fn value(random: &mut Random, tag: u8, most: usize) -> Tree {
     any_node(random, tag, vec![value])
 }
 
-fn response(random: &mut Random, past: usize) -> Vec<Tree> {
-    let mut pieces = name(random, past);
-    pieces.push(value(random, 0xA2, 1 + past));
-    let giver = if random.chance(20 * past) { random.pick(&[0xA0, 0xA3]) } else { random.pick(&[0xA1, 0xA1, 0xA2]) };
-    let diagnostic = value(random, giver, 2 + past);
+fn response(random: &mut Random, odd: bool) -> Vec<Tree> {
+    let mut pieces = name(random, odd);
+    pieces.push(value(random, 0xA2, 1 + usize::from(odd)));
+    let giver = if odd && random.chance(20) { random.pick(&[0xA0, 0xA3]) } else { random.pick(&[0xA1, 0xA1, 0xA2]) };
+    let diagnostic = value(random, giver, 2 + usize::from(odd));
     pieces.push(any_node(random, 0xA3, vec![diagnostic]));
     pieces
 }
@@ -70,12 +70,12 @@ pub fn any(random: &mut Random) -> Tree {
     let kind = any_kind(random);
     match random.below(12) {
         0 | 1 => {
-            let pdu = pdu(random, kind, 1);
+            let pdu = pdu(random, kind, true);
             with_frame(random, kind, pdu)
         }
         2..=5 => twisted(random, kind),
         6 => {
-            let octets = pdu(random, kind, 0).encode();
+            let octets = pdu(random, kind, false).encode();
             let mut portion = with_frame(random, kind, Tree::Raw(octets));
             twist(&mut portion, random);
             portion
@@ -90,8 +90,8 @@ pub fn any(random: &mut Random) -> Tree {
 }
 
 /// A portion whose PDU was changed in its own pieces, or in any of its elements, before the information came to it.
-fn twisted(random: &mut Random, kind: ([u8; 7], u8)) -> Tree {
-    let mut pdu = pdu(random, kind, 0);
+fn twisted(random: &mut Random, kind: Kind) -> Tree {
+    let mut pdu = pdu(random, kind, false);
     match &mut pdu {
         Tree::Node { children, .. } if random.chance(50) => twist_children(children, random),
         _ => twist(&mut pdu, random),
