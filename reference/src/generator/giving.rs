@@ -12,7 +12,7 @@ pub fn name(random: &mut Random) -> Tree {
     match random.below(8) {
         0..=3 => leaf(0x06, &[4, 0, 0, 1, 0, random.octet() & 0x1F, random.within(1, 3) as u8]),
         4 => leaf(0x06, &[random.octet()]),
-        5 if random.chance(20) => leaf(0x06, &vec![0x2A; random.pick(&[126, 127, 128, 129, 160])]),
+        5 if random.chance(20) => leaf(0x06, &vec![0x2A; random.pick(&[126, 127, 128, 129, 160, 255, 256])]),
         _ => {
             let count = random.within(1, 20);
             leaf(0x06, &random.octets(count))
@@ -103,6 +103,7 @@ pub fn any(random: &mut Random) -> Given {
         3 | 4 => Given { information: odd_information(random), ..given },
         5 => Given { name: Vec::new(), information: odd_information(random) },
         6 => Given { name: odd_name(random), information: odd_information(random) },
+        7 if random.chance(20) => Given { information: filled(random.pick(&[250, 256, 512, 700])), ..given },
         _ => given,
     }
 }
