@@ -1,29 +1,23 @@
 -- NAME AND INFORMATION GIVEN with a sending (02 a; answers 11, 12 and 14), by the number of waiting octets. Assumes nothing.
 use mathlib.Core.Path.{_≡_, refl, sym, ap, _∙_}
-use mathlib.Core.Bool.{true, false}
+use mathlib.Core.Bool.{Bool, true, false}
 use mathlib.Core.List.{List, []}
-use Prim.Native.Nat.{ℕ, _+_, _<_, _≤_}
+use Prim.Native.Nat.{ℕ, _+_, _≤_}
 use native.Mathlib.Omega.{arith}
 use lib.ListN.{length}
-use Rattle.laws.specs.If.{ifB, lt, ge, eq, ne, yes, no, by-eq, was-yes, was-ge}
+use Rattle.laws.specs.If.{ifEq, ifB, ge, eq, ne, yes, by-eq, was-yes, was-ge}
 use Rattle.paper.specs.Portions.{Form, portionBy}
 use Rattle.paper.specs.Dialogues.{Place, isName, isInformation, overfull, first, unplaced, portionRefusal}
 use Rattle.given.specs.Pieces.{overBy}
 use Rattle.writing_portions.specs.Forms.{formFor}
 
+unfoldable pub malformed : List ℕ → List ℕ → ℕ
+malformed name info = ifB (isName name) (ifB (isInformation info) 0 11) 11
+
 unfoldable pub refusalOf : ℕ → ℕ → ℕ → List ℕ → List ℕ → ℕ
-refusalOf n state kind name info =
-    ifB (isName name)
-    (ifB (isInformation info) (first (overBy n (length (portionBy (formFor kind) name info))) (unplaced state name info)) 11)
-    11
+refusalOf n state kind name info = first (malformed name info) (first (overBy n (length (portionBy (formFor kind) name info))) (unplaced state name info))
 
--- at a place where n octets wait
-pub refusal-is : (x : Place) (n kind : ℕ) (name info : List ℕ) → n ≡ length (x .waiting)
-    → refusalOf n (x .control .state) kind name info ≡ portionRefusal x (formFor kind) name info
-unfolding refusalOf portionRefusal overfull
-refusal-is x n kind name info e = ap (λ (k : ℕ). refusalOf k (x .control .state) kind name info) e
-
--- where the first number is 0 it is the second, else it is itself
+-- the first of two numbers that isn't 0
 module _ (n m : ℕ) where
   pub first-none : n ≡ 0 → m ≡ first n m
   unfolding first
@@ -33,9 +27,23 @@ module _ (n m : ℕ) where
   unfolding first
   first-some h = ne _ _ _ _ h refl
 
-  pub first-zero : 0 ≡ first n m → (n ≡ 0) × (0 ≡ m)
+  pub first-zero : (k : ℕ) → k ≡ 0 → k ≡ first n m → (n ≡ 0) × (0 ≡ m)
   unfolding first
-  first-zero e = by-eq n 0 m n e (λ z h. (z, h)) (λ z h. absurd (z (sym h)))
+  first-zero k z e = by-eq n 0 m n e (λ y h. (y, sym z ∙ h)) (λ y h. absurd (y (sym h ∙ z)))
+
+first-malformed : (a b : Bool) (k : ℕ) → first (ifB a (ifB b 0 11) 11) k ≡ ifB a (ifB b k 11) 11
+unfolding first ifB ifEq
+first-malformed true true k = refl
+first-malformed true false k = refl
+first-malformed false b k = refl
+
+-- AT A PLACE where n octets wait
+pub refusal-is : (x : Place) (n kind : ℕ) (name info : List ℕ) → n ≡ length (x .waiting)
+    → refusalOf n (x .control .state) kind name info ≡ portionRefusal x (formFor kind) name info
+unfolding refusalOf malformed portionRefusal overfull
+refusal-is x n kind name info e =
+    ap (λ (k : ℕ). refusalOf k (x .control .state) kind name info) e
+    ∙ first-malformed (isName name) (isInformation info) (first (overfull x (portionBy (formFor kind) name info)) (unplaced (x .control .state) name info))
 
 -- NOT REFUSED: waiting octets and portion are at most 240 together
 pub portion-fits : (x : Place) (f : Form) (name info : List ℕ) → 0 ≡ portionRefusal x f name info → length (x .waiting) + length (portionBy f name info) ≤ 240
@@ -43,40 +51,23 @@ unfolding portionRefusal overfull
 portion-fits x f name info e =
     let a = was-yes _ _ _ e (λ z. omega (arith, z)) in
     let b = was-yes _ _ _ (a .1) (λ z. omega (arith, z)) in
-    let c = first-zero _ _ (b .1) in
+    let c = first-zero _ _ 0 refl (b .1) in
     was-ge _ _ _ _ (sym (c .0)) (λ z. omega (arith, z)) .0
 
--- NEITHER GIVEN: no portion, and no refusal
-module _ (name info : List ℕ) (a : length name ≡ 0) (b : length info ≡ 0) where
-  pub portion-none : (f : Form) → [] ≡ portionBy f name info
-  unfolding portionBy
-  portion-none f = eq _ _ _ _ (omega arith) refl
-
-  pub refusal-none : (n state kind : ℕ) → n ≤ 240 → 0 ≡ refusalOf n state kind name info
-  unfolding refusalOf isName isInformation unplaced
-  refusal-none n state kind h =
-      yes _ _ _ (sym (eq _ _ _ _ a refl))
-      (yes _ _ _ (sym (eq _ _ _ _ b refl))
-      (eq _ _ _ _ a (eq _ _ _ _ b refl) ∙ first-none _ _ (sym (ge _ _ _ _ (omega (arith, ap length (portion-none (formFor kind)))) refl))))
-
--- ONE GIVEN
+-- BY ITS PARTS
 module _ (n state kind : ℕ) (name info : List ℕ) where
-  pub refusal-name : isName name ≡ false → 11 ≡ refusalOf n state kind name info
+  pub refusal-by : (a b c m r : ℕ) → a ≡ malformed name info → b ≡ overBy n (length (portionBy (formFor kind) name info)) → c ≡ unplaced state name info
+      → m ≡ first b c → r ≡ first a m → r ≡ refusalOf n state kind name info
   unfolding refusalOf
-  refusal-name e = no _ _ _ e refl
+  refusal-by a b c m r h i j k l =
+      let over : ℕ = overBy n (length (portionBy (formFor kind) name info)) in
+      let later : m ≡ first over (unplaced state name info) = k ∙ ap (λ (k : ℕ). first k c) i ∙ ap (first over) j in
+      l ∙ ap (λ (k : ℕ). first k m) h ∙ ap (first (malformed name info)) later
 
-  module _ (e : isName name ≡ true) where
-    pub refusal-information : isInformation info ≡ false → 11 ≡ refusalOf n state kind name info
-    unfolding refusalOf
-    refusal-information f = yes _ _ _ e (no _ _ _ f refl)
-
-    module _ (f : isInformation info ≡ true) where
-      pub refusal-over : 240 < n + length (portionBy (formFor kind) name info) → 12 ≡ refusalOf n state kind name info
-      unfolding refusalOf
-      refusal-over h =
-          let z : _≡_ {A = ℕ} 12 (overBy n (length (portionBy (formFor kind) name info))) = lt _ _ _ _ h refl in
-          yes _ _ _ e (yes _ _ _ f (z ∙ first-some _ _ (λ y. omega (arith, z, y))))
-
-      pub refusal-fits : n + length (portionBy (formFor kind) name info) ≤ 240 → (k : ℕ) → k ≡ unplaced state name info → k ≡ refusalOf n state kind name info
-      unfolding refusalOf
-      refusal-fits h k g = yes _ _ _ e (yes _ _ _ f (g ∙ first-none _ _ (sym (ge _ _ _ _ h refl))))
+  -- neither given: no portion, and no refusal
+  pub refusal-none : length name ≡ 0 → length info ≡ 0 → n ≤ 240 → 0 ≡ refusalOf n state kind name info
+  unfolding malformed isName isInformation unplaced portionBy
+  refusal-none a b h =
+      let p : [] ≡ portionBy (formFor kind) name info = eq _ _ _ _ (omega arith) refl in
+      refusal-by 0 0 0 0 0 (yes _ _ _ (sym (eq _ _ _ _ a refl)) (yes _ _ _ (sym (eq _ _ _ _ b refl)) refl)) (ge _ _ _ _ (omega (arith, ap length p)) refl)
+      (eq _ _ _ _ a (eq _ _ _ _ b refl)) (first-none 0 0 refl) (first-none 0 0 refl)

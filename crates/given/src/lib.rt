@@ -4,9 +4,11 @@ ghost use mathlib.Core.Path.{_≡_};
 ghost use Prim.Native.Nat.{_+_, _≤_};
 ghost use lib.ListN.{length};
 ghost use Rattle.paper.specs.Elements.{isElement};
-ghost use Rattle.paper.specs.Dialogues.{isCode, isParameter, isResult, isPortion, isName, isBlock, isInformation, unplaced};
-ghost use Rattle.given.specs.Pieces.{piecesRefusal, bothRefusal};
-ghost use Rattle.given.specs.Portion.{refusalOf};
+ghost use Rattle.paper.specs.Dialogues.{isCode, isParameter, isResult, isPortion, isName, isBlock, isInformation, first, unplaced};
+ghost use Rattle.paper.specs.Portions.{portionBy};
+ghost use Rattle.writing_portions.specs.Forms.{formFor};
+ghost use Rattle.given.specs.Pieces.{overBy, piecesRefusal, bothRefusal};
+ghost use Rattle.given.specs.Portion.{malformed, refusalOf};
 
 // One well-formed element, with so many depths to go.
 pub fn is_element(l: &[u8], left: usize) -> bool
@@ -163,28 +165,57 @@ fn unplaced_by(state: u8, name: &[u8], information: &[u8]) -> u32
     return 0;
 }
 
-// Of a name and information of which one is given, with any PDU but an ABRT: in this order 11, 12 ("The 240 octets .. count the portion too"), 14 or 0.
-fn formed_refusal(n: usize, state: u8, kind: u8, name: &[u8], information: &[u8]) -> u32
-    requires { ⌜ (n ≤ 240) × (kind ≡ 4 → ⊥) ⌝ }
-    ensures { λ r. ⌜ r ≡ refusalOf n state kind (now (name .entry)) (now (information .entry)) ⌝ }
+// A name or information that is not one well-formed element of its kind (11).
+fn malformed_by(name: &[u8], information: &[u8]) -> u32
+    ensures { λ r. ⌜ r ≡ malformed (now (name .entry)) (now (information .entry)) ⌝ }
 {
     if is_name(name) {
         if is_information(information) {
-            if name.len() > 240 {
-                return 12;
-            }
-            if information.len() > 240 {
-                return 12;
-            }
-            let size = writing_portions::portion_size(kind, name.len(), information.len());
-            if n + size > 240 {
-                return 12;
-            }
-            return unplaced_by(state, name, information);
+            return 0;
         }
         return 11;
     }
     return 11;
+}
+
+// "The 240 octets .. count the portion too" (12), with any PDU but an ABRT.
+fn overfull_by(n: usize, kind: u8, name: &[u8], information: &[u8]) -> u32
+    requires { ⌜ (n ≤ 240) × (kind ≡ 4 → ⊥) ⌝ }
+    ensures { λ r. ⌜ r ≡ overBy n (length (portionBy (formFor kind) (now (name .entry)) (now (information .entry)))) ⌝ }
+{
+    if name.len() > 240 {
+        return 12;
+    }
+    if information.len() > 240 {
+        return 12;
+    }
+    let size = writing_portions::portion_size(kind, name.len(), information.len());
+    if n + size > 240 {
+        return 12;
+    }
+    return 0;
+}
+
+// The first of two numbers that isn't 0.
+fn first_of(a: u32, b: u32) -> u32
+    ensures { λ r. ⌜ r ≡ first a b ⌝ }
+{
+    if a == 0 {
+        return b;
+    }
+    return a;
+}
+
+// Of a name and information of which one is given: "14 .. after 12", which is after 11.
+fn formed_refusal(n: usize, state: u8, kind: u8, name: &[u8], information: &[u8]) -> u32
+    requires { ⌜ (n ≤ 240) × (kind ≡ 4 → ⊥) ⌝ }
+    ensures { λ r. ⌜ r ≡ refusalOf n state kind (now (name .entry)) (now (information .entry)) ⌝ }
+{
+    let wrong = malformed_by(name, information);
+    let over = overfull_by(n, kind, name, information);
+    let unplaced = unplaced_by(state, name, information);
+    let later = first_of(over, unplaced);
+    return first_of(wrong, later);
 }
 
 // Of a name and information where n octets wait: none given, none refused, by two tests.

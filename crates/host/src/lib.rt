@@ -9,7 +9,7 @@ ghost use Rattle.paper.specs.Components.{lastTag, notLastTag, noID};
 ghost use Rattle.paper.specs.Dialogues.Request.{Invoke, Result, Error, UserReject, Cancel, Begin, Continue, End, Prearranged, Abort, Unidirectional, Timeout, RejectTimeout, NoReaction};
 ghost use Rattle.paper.specs.Calls.Call.{Open, OnDialogue, Receive};
 ghost use Rattle.paper.specs.Layout.{tableSize};
-ghost use Rattle.paper.specs.Outcome.{Gives, outcome, freshOutcome};
+ghost use Rattle.paper.specs.Outcome.{Gives, outcome, freshOutcome, portionOutcome};
 ghost use Rattle.paper.specs.Readers.{parameterAt};
 
 #[no_mangle]
@@ -157,11 +157,13 @@ pub extern "C" fn tcap_begin(
     table: &mut [u8],
     service: u32,
     dialogue: u32,
+    name: &[u8],
+    information: &[u8],
     space: &mut [u8],
 ) -> Reply
-    ensures { λ r. ⌜ Gives (outcome (record { table = now (table .entry); rows = []; space = now (space .entry) }) (OnDialogue service dialogue Begin)) (r .answer) (r .rows) (r .length) (r .dialogue) (record { table = now (table .exit); rows = []; space = now (space .exit) }) ⌝ }
+    ensures { λ r. ⌜ Gives (outcome (record { table = now (table .entry); rows = []; space = now (space .entry) }) (OnDialogue service dialogue (Begin (now (name .entry)) (now (information .entry))))) (r .answer) (r .rows) (r .length) (r .dialogue) (record { table = now (table .exit); rows = []; space = now (space .exit) }) ⌝ }
 {
-    sending::send_begin(table, service, dialogue, space)
+    sending::send_begin(table, service, dialogue, name, information, space)
 }
 
 #[no_mangle]
@@ -169,18 +171,27 @@ pub extern "C" fn tcap_continue(
     table: &mut [u8],
     service: u32,
     dialogue: u32,
+    name: &[u8],
+    information: &[u8],
     space: &mut [u8],
 ) -> Reply
-    ensures { λ r. ⌜ Gives (outcome (record { table = now (table .entry); rows = []; space = now (space .entry) }) (OnDialogue service dialogue Continue)) (r .answer) (r .rows) (r .length) (r .dialogue) (record { table = now (table .exit); rows = []; space = now (space .exit) }) ⌝ }
+    ensures { λ r. ⌜ Gives (outcome (record { table = now (table .entry); rows = []; space = now (space .entry) }) (OnDialogue service dialogue (Continue (now (name .entry)) (now (information .entry))))) (r .answer) (r .rows) (r .length) (r .dialogue) (record { table = now (table .exit); rows = []; space = now (space .exit) }) ⌝ }
 {
-    sending::send_continue(table, service, dialogue, space)
+    sending::send_continue(table, service, dialogue, name, information, space)
 }
 
 #[no_mangle]
-pub extern "C" fn tcap_end(table: &mut [u8], service: u32, dialogue: u32, space: &mut [u8]) -> Reply
-    ensures { λ r. ⌜ Gives (outcome (record { table = now (table .entry); rows = []; space = now (space .entry) }) (OnDialogue service dialogue End)) (r .answer) (r .rows) (r .length) (r .dialogue) (record { table = now (table .exit); rows = []; space = now (space .exit) }) ⌝ }
+pub extern "C" fn tcap_end(
+    table: &mut [u8],
+    service: u32,
+    dialogue: u32,
+    name: &[u8],
+    information: &[u8],
+    space: &mut [u8],
+) -> Reply
+    ensures { λ r. ⌜ Gives (outcome (record { table = now (table .entry); rows = []; space = now (space .entry) }) (OnDialogue service dialogue (End (now (name .entry)) (now (information .entry))))) (r .answer) (r .rows) (r .length) (r .dialogue) (record { table = now (table .exit); rows = []; space = now (space .exit) }) ⌝ }
 {
-    sending::send_end(table, service, dialogue, space)
+    sending::send_end(table, service, dialogue, name, information, space)
 }
 
 #[no_mangle]
@@ -208,11 +219,13 @@ pub extern "C" fn tcap_unidirectional(
     table: &mut [u8],
     service: u32,
     dialogue: u32,
+    name: &[u8],
+    information: &[u8],
     space: &mut [u8],
 ) -> Reply
-    ensures { λ r. ⌜ Gives (outcome (record { table = now (table .entry); rows = []; space = now (space .entry) }) (OnDialogue service dialogue Unidirectional)) (r .answer) (r .rows) (r .length) (r .dialogue) (record { table = now (table .exit); rows = []; space = now (space .exit) }) ⌝ }
+    ensures { λ r. ⌜ Gives (outcome (record { table = now (table .entry); rows = []; space = now (space .entry) }) (OnDialogue service dialogue (Unidirectional (now (name .entry)) (now (information .entry))))) (r .answer) (r .rows) (r .length) (r .dialogue) (record { table = now (table .exit); rows = []; space = now (space .exit) }) ⌝ }
 {
-    sending::send_unidirectional(table, service, dialogue, space)
+    sending::send_unidirectional(table, service, dialogue, name, information, space)
 }
 
 #[no_mangle]
@@ -284,4 +297,16 @@ pub extern "C" fn tcap_parameter(message: &[u8], start: usize, len: usize) -> Sp
         start: p.start,
         length: p.length,
     }
+}
+
+#[no_mangle]
+pub extern "C" fn tcap_portion(
+    message: &[u8],
+    start: usize,
+    length: usize,
+    rows: &mut [u8],
+) -> Reply
+    ensures { λ r. ⌜ Gives (portionOutcome (now (rows .entry)) (now (message .entry)) start length) (r .answer) (r .rows) (r .length) (r .dialogue) (record { table = []; rows = now (rows .exit); space = [] }) ⌝ }
+{
+    asking::portion(message, start, length, rows)
 }

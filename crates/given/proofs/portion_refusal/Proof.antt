@@ -7,7 +7,7 @@ use Rattle.given.proofs.portion_refusal.Tie as tie
 returns : tie.Need-returns
 returns c =
     let args = c .before .before .before .before .args in
-    refusal-none (args .name .now) (args .information .now) (omega arith) (omega arith) (args .n) (args .state) (args .kind) (omega arith)
+    refusal-none (args .n) (args .state) (args .kind) (args .name .now) (args .information .now) (omega arith) (omega arith) (omega arith)
 
 formed-refusal-requires : tie.Need-formed-refusal-requires
 formed-refusal-requires c κs = search needs
