@@ -98,10 +98,10 @@ pub fn is_block(l: &[u8]) -> bool
 pub fn is_information(l: &[u8]) -> bool
     ensures { λ r. ⌜ r ≡ isInformation (now (l .entry)) ⌝ }
 {
-    if l.len() == 0 {
-        return true;
+    if l.len() > 0 {
+        return is_block(l);
     }
-    return is_block(l);
+    return true;
 }
 
 // Of an invoke or an error where n octets wait: 11, 12 or 0. `front` octets stand before the operation or error.
