@@ -210,6 +210,13 @@ fn with_four(table: &mut [u8], rows: &mut [u8], space: &mut [u8], line: &mut [u8
     on_invocation(table, rows, line)
 }
 
+fn with_five(table: &mut [u8], space: &mut [u8], line: &mut [u8]) -> Reply {
+    if asked::verb(line, b"reject") {
+        return reject(table, line);
+    }
+    with_pair(table, space, line, 3)
+}
+
 fn reply_to(table: &mut [u8], rows: &mut [u8], space: &mut [u8], line: &mut [u8]) -> Reply {
     let n = fields::separators(line, b' ');
     if n == 1 {
@@ -221,11 +228,17 @@ fn reply_to(table: &mut [u8], rows: &mut [u8], space: &mut [u8], line: &mut [u8]
     if n == 3 {
         return with_four(table, rows, space, line);
     }
-    if n == 4 && asked::verb(line, b"reject") {
-        return reject(table, line);
+    if n == 4 {
+        return with_five(table, space, line);
     }
-    if n >= 4 && n <= 7 {
-        return with_pair(table, space, line, n - 1);
+    if n == 5 {
+        return with_pair(table, space, line, 4);
+    }
+    if n == 6 {
+        return with_pair(table, space, line, 5);
+    }
+    if n == 7 {
+        return with_pair(table, space, line, 6);
     }
     unread()
 }
