@@ -27,15 +27,18 @@ static struct node home, partner;
 /* An operation is a whole element: 02, length, number. A parameter is any one element; these are text: 04, length, characters. */
 static const uint8_t ask_menu[] = { 0x02, 0x01, 0x3B }, ask_back[] = { 0x02, 0x01, 0x3C };
 static const uint8_t code[] = { 0x04, 0x05, '*', '1', '0', '0', '#' }, balance[] = { 0x04, 0x03, '4', '2', '!' };
-/* A dialogue portion is a whole 6B element; the engine looks only at its form. */
-static const uint8_t farewell[] = { 0x6B, 0x06, 0x28, 0x04, 0x06, 0x02, 0x2A, 0x03 };
+/* An application context's name is a whole 06 element: location update, version 3 (0.4.0.0.1.0.1.3). User information is a whole BE element. */
+static const uint8_t location_update[] = { 0x06, 0x07, 0x04, 0x00, 0x00, 0x01, 0x00, 0x01, 0x03 }, farewell[] = { 0xBE, 0x04, 0x04, 0x02, 'O', 'K' };
 
 /* ---- WORDS ------------------------------------------------------------------------------------------------------------------------- */
 
 static const char *const answer_words[] = {
     "done", "wrong size lent", "broken table", "no such service", "message too short or too long", "no such dialogue",
     "wrong dialogue state", "no place for this service", "wrong class or problem", "invoke ID in a wrong state",
-    "8 invocations open already", "octets not well formed", "over 240 octets", "wrong shares"
+    "8 invocations open already", "octets not well formed", "over 240 octets", "wrong shares", "name or information not taken here"
+};
+static const char *const portion_words[] = {
+    "no dialogue portion", "of a form of its own", "a dialogue request", "a dialogue response", "a dialogue abort", "a unidirectional dialogue"
 };
 static const char *const kind_words[] = {
     "", "UNI", "BEGIN", "CONTINUE", "END", "U-ABORT", "P-ABORT", "INVOKE", "RESULT-L", "RESULT-NL", "U-ERROR", "U-REJECT", "R-REJECT",
@@ -71,6 +74,23 @@ static void print_operation(const uint8_t *row, const uint8_t *message)
     print_octets("its operation", message + at, 2u + message[at + 1]);
 }
 
+/* What a dialogue portion says. The row it is told in is another than the message's rows, which are still being read. */
+static void print_portion(const uint8_t *message, size_t octets, struct tcap_span part)
+{
+    static uint8_t said[TCAP_ROWS_OCTETS];
+    tcap_portion(message, octets, part.start, part.length, ALL(said));
+    printf("           which is %s", portion_words[tcap_portion_number(said, TCAP_PORTION_KIND)]);
+    print_unless(TCAP_NO_VALUE, "result", tcap_portion_number(said, TCAP_PORTION_RESULT));
+    print_unless(TCAP_NO_VALUE, "diagnostic", tcap_portion_number(said, TCAP_PORTION_DIAGNOSTIC));
+    print_unless(TCAP_NO_VALUE, "from", tcap_portion_number(said, TCAP_PORTION_SOURCE));
+    printf("\n");
+    if (tcap_portion_number(said, TCAP_PORTION_NAME_LENGTH) > 0)
+        print_octets("its context name", message + tcap_portion_number(said, TCAP_PORTION_NAME_START), tcap_portion_number(said, TCAP_PORTION_NAME_LENGTH));
+    if (tcap_portion_number(said, TCAP_PORTION_INFORMATION_LENGTH) > 0)
+        print_octets("its user information", message + tcap_portion_number(said, TCAP_PORTION_INFORMATION_START),
+                     tcap_portion_number(said, TCAP_PORTION_INFORMATION_LENGTH));
+}
+
 /* The row's octets in the message: of a component its parameter is shown, of a dialogue row the dialogue portion. */
 static void print_part(const uint8_t *row, const uint8_t *message, size_t octets)
 {
@@ -80,6 +100,8 @@ static void print_part(const uint8_t *row, const uint8_t *message, size_t octets
         part = tcap_parameter(message, octets, part.start, part.length);
     if (part.length > 0)
         print_octets(is_component ? "its parameter" : "its dialogue portion", message + part.start, part.length);
+    if (part.length > 0 && !is_component)
+        print_portion(message, octets, part);
 }
 
 static void print_row(const char *name, const uint8_t *row, const uint8_t *message, size_t octets)
@@ -153,7 +175,7 @@ static uint32_t asked(const uint8_t *parameter, size_t parameter_octets)
 {
     uint32_t dialogue = opened(&home, MENU);
     did(&home, "invoke 5", tcap_invoke(TABLE(home), MENU, dialogue, 5, 1, ALL(ask_menu), parameter, parameter_octets));
-    did(&home, "begin", tcap_begin(TABLE(home), MENU, dialogue, SPACE(home)));
+    did(&home, "begin", tcap_begin(TABLE(home), MENU, dialogue, TCAP_NONE, TCAP_NONE, SPACE(home)));
     return dialogue;
 }
 
@@ -164,7 +186,7 @@ static void question_and_answer(void)
     asked(ALL(code));
     theirs = carried(&home, &partner, MENU);
     did(&partner, "result last of 5", tcap_result_last(TABLE(partner), MENU, theirs, 5, ALL(ask_menu), ALL(balance)));
-    did(&partner, "end", tcap_end(TABLE(partner), MENU, theirs, SPACE(partner)));
+    did(&partner, "end", tcap_end(TABLE(partner), MENU, theirs, TCAP_NONE, TCAP_NONE, SPACE(partner)));
     carried(&partner, &home, MENU);
 }
 
@@ -175,14 +197,14 @@ static void five_inside_five(void)
     ours = asked(TCAP_NONE);
     theirs = carried(&home, &partner, MENU);
     did(&partner, "invoke 5 linked to 5", tcap_invoke_linked(TABLE(partner), MENU, theirs, 5, 5, 1, ALL(ask_back), TCAP_NONE));
-    did(&partner, "continue", tcap_continue(TABLE(partner), MENU, theirs, SPACE(partner)));
+    did(&partner, "continue", tcap_continue(TABLE(partner), MENU, theirs, TCAP_NONE, TCAP_NONE, SPACE(partner)));
     carried(&partner, &home, MENU);
     did(&home, "invoke 5 again, while ours is still Sent", tcap_invoke(TABLE(home), MENU, ours, 5, 1, ALL(ask_menu), TCAP_NONE));
     did(&home, "result last of the partner's 5", tcap_result_last(TABLE(home), MENU, ours, 5, TCAP_NONE, TCAP_NONE));
-    did(&home, "continue", tcap_continue(TABLE(home), MENU, ours, SPACE(home)));
+    did(&home, "continue", tcap_continue(TABLE(home), MENU, ours, TCAP_NONE, TCAP_NONE, SPACE(home)));
     carried(&home, &partner, MENU);
     did(&partner, "result last of home's 5", tcap_result_last(TABLE(partner), MENU, theirs, 5, TCAP_NONE, TCAP_NONE));
-    did(&partner, "end", tcap_end(TABLE(partner), MENU, theirs, SPACE(partner)));
+    did(&partner, "end", tcap_end(TABLE(partner), MENU, theirs, TCAP_NONE, TCAP_NONE, SPACE(partner)));
     carried(&partner, &home, MENU);
 }
 
@@ -198,17 +220,32 @@ static void no_answer(void)
 static void user_abort(void)
 {
     uint32_t theirs;
-    printf("\n4. The partner's user aborts, with a dialogue portion\n");
+    printf("\n4. The partner's user aborts, with user information\n");
     asked(TCAP_NONE);
     theirs = carried(&home, &partner, MENU);
     did(&partner, "abort", tcap_abort(TABLE(partner), MENU, theirs, ALL(farewell), SPACE(partner)));
     carried(&partner, &home, MENU);
 }
 
+/* The first message names the application context; the first answer names it again. Later ones name none. */
+static void named(void)
+{
+    uint32_t ours, theirs;
+    printf("\n5. A location update opens with its context name, and is answered with it\n");
+    ours = opened(&home, ROAMING);
+    did(&home, "begin with a name", tcap_begin(TABLE(home), ROAMING, ours, ALL(location_update), TCAP_NONE, SPACE(home)));
+    theirs = carried(&home, &partner, ROAMING);
+    did(&partner, "continue with the name", tcap_continue(TABLE(partner), ROAMING, theirs, ALL(location_update), TCAP_NONE, SPACE(partner)));
+    carried(&partner, &home, ROAMING);
+    did(&home, "continue with a name, in Active", tcap_continue(TABLE(home), ROAMING, ours, ALL(location_update), TCAP_NONE, SPACE(home)));
+    did(&home, "end", tcap_end(TABLE(home), ROAMING, ours, TCAP_NONE, TCAP_NONE, SPACE(home)));
+    carried(&home, &partner, ROAMING);
+}
+
 static void flood(void)
 {
     int count = 0;
-    printf("\n5. MENU floods the partner: ROAMING still gets its guaranteed places, by a Begin and by an open\n");
+    printf("\n6. MENU floods the partner: ROAMING still gets its guaranteed places, by a Begin and by an open\n");
     did(&partner, "prearranged end of dialogue 00000000", tcap_end_prearranged(TABLE(partner), ROAMING, 0));
     while (tcap_open(TABLE(partner), MENU).answer == TCAP_DONE)
         count++;
@@ -217,7 +254,7 @@ static void flood(void)
     asked(TCAP_NONE);
     carried(&home, &partner, MENU);     /* refused: Abort with cause 4, TCAP_RESOURCE_LIMIT */
     carried(&partner, &home, MENU);
-    did(&home, "begin", tcap_begin(TABLE(home), ROAMING, opened(&home, ROAMING), SPACE(home)));
+    did(&home, "begin", tcap_begin(TABLE(home), ROAMING, opened(&home, ROAMING), TCAP_NONE, TCAP_NONE, SPACE(home)));
     carried(&home, &partner, ROAMING);
     opened(&partner, ROAMING);
 }
@@ -229,6 +266,7 @@ int main(void)
     five_inside_five();
     no_answer();
     user_abort();
+    named();
     flood();
     return 0;
 }

@@ -29,7 +29,7 @@ extern "C" {
 #define TCAP_SERVICES 16            /* services (TC-users) are 0 to 15 */
 #define TCAP_PLACES 128             /* dialogues at a time, of all services together */
 #define TCAP_INVOCATIONS 8          /* open invocations of ours a dialogue */
-#define TCAP_WAITING_OCTETS 240     /* octets of components that wait to be sent, a dialogue; the most of a dialogue portion given */
+#define TCAP_WAITING_OCTETS 240     /* octets of components that wait to be sent, a dialogue; together with the dialogue portion of a message */
 #define TCAP_WAITING_REJECTS 8      /* rejects of the engine's own that wait to be sent, a dialogue */
 #define TCAP_MESSAGE_OCTETS 512     /* the longest message received */
 #define TCAP_SPACE_OCTETS 272       /* the least message space; no message written is longer */
@@ -60,8 +60,10 @@ enum tcap_answer {
     TCAP_INVOCATIONS_FULL = 10,/* 8 invocations are open already */
     TCAP_WRONG_OCTETS = 11,   /* octets given aren't one well-formed element of their kind, or nest too deep; or only one of a result's
                                  operation and parameter is given */
-    TCAP_TOO_LONG = 12,       /* waiting components, or the dialogue portion given, over 240 octets */
-    TCAP_WRONG_SHARES = 13    /* fresh: a guarantee above its limit, a limit above 128, or guarantees over 128 together */
+    TCAP_TOO_LONG = 12,       /* waiting components and the dialogue portion that goes with them over 240 octets; an abort's portion alone */
+    TCAP_WRONG_SHARES = 13,   /* fresh: a guarantee above its limit, a limit above 128, or guarantees over 128 together */
+    TCAP_WRONG_PORTION = 14   /* a context name or user information with continue or end in Active; user information without a name, but in
+                                 abort */
 };
 
 /* ---- ROWS: what a received message or a timer event tells ---------------------------------------------------------------------- */
@@ -229,31 +231,43 @@ struct tcap_reply tcap_cancel(uint8_t *table, size_t table_octets, uint32_t serv
 
 /* ---- REQUESTS ON THE DIALOGUE: they write a message to the message space --------------------------------------------------------- */
 /*
- * The message takes the waiting components in order, and after them the engine's own waiting rejects if all together have at most 240
- * octets. The reply's `length` is the message's octets; the host sends them. `space` has at least TCAP_SPACE_OCTETS; octets after the
- * message keep what they held.
+ * The message takes a dialogue portion, if one is given; then the waiting components in order, and after them the engine's own waiting
+ * rejects if all together, the portion too, have at most 240 octets. The reply's `length` is the message's octets; the host sends them.
+ * `space` has at least TCAP_SPACE_OCTETS; octets after the message keep what they held.
+ *
+ * `name` is the application context's name, one whole element 06 with at least 1 octet, or none (TCAP_NONE); `information` is user
+ * information, one whole element BE, or none. A name makes a dialogue portion, and information goes only with a name: a dialogue request
+ * (AARQ) in Begin, a response (AARE: accepted, user, null) in Continue or End, which take them only in Received, and the unidirectional
+ * PDU (AUDT) in Unidirectional. Neither: no dialogue portion.
  */
 
-/* Sends Begin, from Open. Answers 0, 1, 2, 3, 5, 6. */
-struct tcap_reply tcap_begin(uint8_t *table, size_t table_octets, uint32_t service, uint32_t dialogue, uint8_t *space, size_t space_octets);
+/* Sends Begin, from Open. Answers 0, 1, 2, 3, 5, 6, 11, 12, 14. */
+struct tcap_reply tcap_begin(uint8_t *table, size_t table_octets, uint32_t service, uint32_t dialogue, const uint8_t *name,
+                             size_t name_octets, const uint8_t *information, size_t information_octets, uint8_t *space,
+                             size_t space_octets);
 
-/* Sends Continue, from Received or Active. Answers 0, 1, 2, 3, 5, 6. */
-struct tcap_reply tcap_continue(uint8_t *table, size_t table_octets, uint32_t service, uint32_t dialogue, uint8_t *space,
+/* Sends Continue, from Received or Active. Answers 0, 1, 2, 3, 5, 6, 11, 12, 14. */
+struct tcap_reply tcap_continue(uint8_t *table, size_t table_octets, uint32_t service, uint32_t dialogue, const uint8_t *name,
+                                size_t name_octets, const uint8_t *information, size_t information_octets, uint8_t *space,
                                 size_t space_octets);
 
-/* Sends End, from Received or Active; the dialogue is over. Answers 0, 1, 2, 3, 5, 6. */
-struct tcap_reply tcap_end(uint8_t *table, size_t table_octets, uint32_t service, uint32_t dialogue, uint8_t *space, size_t space_octets);
+/* Sends End, from Received or Active; the dialogue is over. Answers 0, 1, 2, 3, 5, 6, 11, 12, 14. */
+struct tcap_reply tcap_end(uint8_t *table, size_t table_octets, uint32_t service, uint32_t dialogue, const uint8_t *name,
+                           size_t name_octets, const uint8_t *information, size_t information_octets, uint8_t *space,
+                           size_t space_octets);
 
 /* Ends the dialogue without a message, in any state; drops what waits. Answers 0, 1, 2, 3, 5. */
 struct tcap_reply tcap_end_prearranged(uint8_t *table, size_t table_octets, uint32_t service, uint32_t dialogue);
 
-/* Ends the dialogue in any state; sends Abort in Received and Active, with the dialogue portion given, a whole 6B element, or with none
- * (TCAP_NONE); in Open and Sent there is no peer ID to send to, and length is 0. Answers 0, 1, 2, 3, 5, 11, 12. */
+/* Ends the dialogue in any state; sends Abort in Received and Active: with `portion`, a whole element 6B, as it is; with user
+ * information, one element BE, in an abort PDU (ABRT: user); or with none (TCAP_NONE). In Open and Sent there is no peer ID to send to,
+ * and length is 0. Answers 0, 1, 2, 3, 5, 11, 12. */
 struct tcap_reply tcap_abort(uint8_t *table, size_t table_octets, uint32_t service, uint32_t dialogue, const uint8_t *portion,
                              size_t portion_octets, uint8_t *space, size_t space_octets);
 
-/* Sends Unidirectional, from Open, of one or more invokes, all of class 4; the dialogue is over. Answers 0, 1, 2, 3, 5, 6. */
-struct tcap_reply tcap_unidirectional(uint8_t *table, size_t table_octets, uint32_t service, uint32_t dialogue, uint8_t *space,
+/* Sends Unidirectional, from Open, of one or more invokes, all of class 4; the dialogue is over. Answers 0, 1, 2, 3, 5, 6, 11, 12, 14. */
+struct tcap_reply tcap_unidirectional(uint8_t *table, size_t table_octets, uint32_t service, uint32_t dialogue, const uint8_t *name,
+                                      size_t name_octets, const uint8_t *information, size_t information_octets, uint8_t *space,
                                       size_t space_octets);
 
 /* ---- A RECEIVED MESSAGE ---------------------------------------------------------------------------------------------------------- */
@@ -292,6 +306,43 @@ struct tcap_span {
 /* Where in the message the parameter stands of the component at start and length, as a row gives them; 0, 0 where there is none or that
  * run is no sound component. Takes no table. */
 struct tcap_span tcap_parameter(const uint8_t *message, size_t message_octets, size_t start, size_t length);
+
+/* ---- THE DIALOGUE PORTION OF A MESSAGE --------------------------------------------------------------------------------------------- */
+
+enum tcap_portion_field {     /* the eight numbers of the row that tcap_portion writes; tcap_portion_number() reads one */
+    TCAP_PORTION_KIND = 0,    /* enum tcap_portion_kind */
+    TCAP_PORTION_NAME_START = 1,          /* the context name, its whole element 06, in the message; 0, 0: none */
+    TCAP_PORTION_NAME_LENGTH = 2,
+    TCAP_PORTION_INFORMATION_START = 3,   /* the user information, its whole element BE, in the message; 0, 0: none */
+    TCAP_PORTION_INFORMATION_LENGTH = 4,
+    TCAP_PORTION_RESULT = 5,              /* of a response: 0 accepted, 1 rejected for good; TCAP_NO_VALUE: none */
+    TCAP_PORTION_DIAGNOSTIC = 6,          /* of a response: 256 plus value from the user, 512 plus value from the provider; TCAP_NO_VALUE: none */
+    TCAP_PORTION_SOURCE = 7               /* of an abort: 0 user, 1 provider; TCAP_NO_VALUE: none */
+};
+
+enum tcap_portion_kind {
+    TCAP_PORTION_NONE = 0,    /* the run isn't in the message, or isn't one well-formed element 6B */
+    TCAP_PORTION_OPAQUE = 1,  /* of another form: the host may read its octets itself */
+    TCAP_AARQ = 2,            /* dialogue request */
+    TCAP_AARE = 3,            /* dialogue response */
+    TCAP_ABRT = 4,            /* dialogue abort */
+    TCAP_AUDT = 5             /* unidirectional dialogue */
+};
+
+#define TCAP_NO_VALUE 65535u
+
+/*
+ * Reads the dialogue portion at start and length of a message, as a dialogue row gives them, and writes one row of eight numbers (enum
+ * tcap_portion_field). Takes no table and changes none: what a portion says is for the host to act on. A protocol version before the name
+ * is stepped over. Needs TCAP_ROWS_OCTETS of rows. Answers 0, 1.
+ */
+struct tcap_reply tcap_portion(const uint8_t *message, size_t message_octets, size_t start, size_t length, uint8_t *rows, size_t rows_octets);
+
+/* One number of that row: tcap_portion_number(rows, TCAP_PORTION_KIND). */
+static inline uint32_t tcap_portion_number(const uint8_t *rows, enum tcap_portion_field field)
+{
+    return tcap_row(rows, 0, (enum tcap_row_field)field);
+}
 
 #ifdef __cplusplus
 }

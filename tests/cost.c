@@ -72,6 +72,31 @@ static void waiting_rejects(void)
     copy_place(0, 1, 127);
 }
 
+/* Place 0 is Open, with an invoke of this class waiting. */
+static void asking(uint32_t cls)
+{
+    empty();
+    made(ask(CALL_OPEN, 3, 0));
+    made(ask_invoke(3, 0, 5, cls));
+}
+
+static void asking_1(void) { asking(1); }
+static void asking_4(void) { asking(4); }
+
+/* Active, or Received, with a result waiting. */
+static void answering(void)
+{
+    active(0);
+    made(ask_id(CALL_RESULT_LAST, 3, 0, 5));
+}
+
+static void answering_first(void)
+{
+    empty();
+    made(ask_receive(3, hex("62 03 48 01 07")));
+    made(ask_id(CALL_RESULT_LAST, 3, 0, 5));
+}
+
 /* ---- WORK ---------------------------------------------------------------------------------------------------------------------------- */
 
 static void nothing(void) { }
@@ -86,10 +111,23 @@ static void transaction(void)
     static const uint8_t operation[] = { 0x02, 0x01, 0x3B };
     need(tcap_open(TABLE, 3), TCAP_DONE);
     need(tcap_invoke(TABLE, 3, 0, 5, 1, operation, sizeof operation, TCAP_NONE), TCAP_DONE);
-    need(tcap_begin(TABLE, 3, 0, SPACE), TCAP_DONE);
+    need(tcap_begin(TABLE, 3, 0, TCAP_NONE, TCAP_NONE, SPACE), TCAP_DONE);
     receive();
 }
 
+static const uint8_t name[] = { 0x06, 0x07, 0x04, 0x00, 0x00, 0x01, 0x00, 0x01, 0x03 };
+#define NAME name, sizeof name
+
+static void send_begin(void) { need(tcap_begin(TABLE, 3, 0, TCAP_NONE, TCAP_NONE, SPACE), TCAP_DONE); }
+static void send_continue(void) { need(tcap_continue(TABLE, 3, 0, TCAP_NONE, TCAP_NONE, SPACE), TCAP_DONE); }
+static void send_end(void) { need(tcap_end(TABLE, 3, 0, TCAP_NONE, TCAP_NONE, SPACE), TCAP_DONE); }
+static void send_uni(void) { need(tcap_unidirectional(TABLE, 3, 0, TCAP_NONE, TCAP_NONE, SPACE), TCAP_DONE); }
+static void send_abort(void) { need(tcap_abort(TABLE, 3, 0, TCAP_NONE, SPACE), TCAP_DONE); }
+static void begin_named(void) { need(tcap_begin(TABLE, 3, 0, NAME, TCAP_NONE, SPACE), TCAP_DONE); }
+static void continue_named(void) { need(tcap_continue(TABLE, 3, 0, NAME, TCAP_NONE, SPACE), TCAP_DONE); }
+static void portion_read(void) { need(tcap_portion(message.octet, message.count, 0, message.count, ROWS), TCAP_DONE); }
+
+#define RESPONSE "6B 2A 28 28 06 07 00 11 86 05 01 01 01 A0 1D 61 1B 80 02 07 80 A1 09 06 07 04 00 00 01 00 01 03 A2 03 02 01 00 A3 05 A1 03 02 01 00"
 #define CONTINUE "65 13 48 01 07 49 04 00 00 00 00 6C 08 A1 06 02 01 05 02 01 3B"
 
 static const struct { const char *name; void (*prepare)(void), (*once)(void); const char *message; } cases[] = {
@@ -100,6 +138,14 @@ static const struct { const char *name; void (*prepare)(void), (*once)(void); co
     { "transaction", empty, transaction, "64 0D 49 04 00 00 00 00 6C 05 A2 03 02 01 05" },
     { "malformed", empty, receive, "62 04 48 01 07" },
     { "unidirectional", empty, receive, "100 components" },
+    { "send-begin", asking_1, send_begin, "" },
+    { "send-continue", answering, send_continue, "" },
+    { "send-end", answering, send_end, "" },
+    { "send-uni", asking_4, send_uni, "" },
+    { "send-abort", answering, send_abort, "" },
+    { "begin-named", asking_1, begin_named, "" },
+    { "continue-named", answering_first, continue_named, "" },
+    { "portion-read", empty, portion_read, RESPONSE },
     { "check-empty", empty, checked, "" },
     { "check-64", dialogues_64, checked, "" },
     { "check-128", dialogues_128, checked, "" },

@@ -157,13 +157,13 @@ int may_answer(enum call call, uint32_t answer)
         [CALL_FRESH] = "00 01 0D", [CALL_OPEN] = "00 01 02 03 07", [CALL_INVOKE] = "00 01 02 03 05 08 09 0A 0B 0C",
         [CALL_INVOKE_LINKED] = "00 01 02 03 05 08 09 0A 0B 0C", [CALL_RESULT_LAST] = "00 01 02 03 05 06 0B 0C",
         [CALL_RESULT_NOT_LAST] = "00 01 02 03 05 06 0B 0C", [CALL_ERROR] = "00 01 02 03 05 06 0B 0C",
-        [CALL_REJECT] = "00 01 02 03 05 06 08 09 0C", [CALL_CANCEL] = "00 01 02 03 05 09", [CALL_BEGIN] = "00 01 02 03 05 06",
-        [CALL_CONTINUE] = "00 01 02 03 05 06", [CALL_END] = "00 01 02 03 05 06", [CALL_END_PREARRANGED] = "00 01 02 03 05",
-        [CALL_ABORT] = "00 01 02 03 05 0B 0C", [CALL_UNIDIRECTIONAL] = "00 01 02 03 05 06", [CALL_RECEIVE] = "00 01 02 03 04",
+        [CALL_REJECT] = "00 01 02 03 05 06 08 09 0C", [CALL_CANCEL] = "00 01 02 03 05 09", [CALL_BEGIN] = "00 01 02 03 05 06 0B 0C 0E",
+        [CALL_CONTINUE] = "00 01 02 03 05 06 0B 0C 0E", [CALL_END] = "00 01 02 03 05 06 0B 0C 0E", [CALL_END_PREARRANGED] = "00 01 02 03 05",
+        [CALL_ABORT] = "00 01 02 03 05 0B 0C", [CALL_UNIDIRECTIONAL] = "00 01 02 03 05 06 0B 0C 0E", [CALL_RECEIVE] = "00 01 02 03 04",
         [CALL_TIMEOUT] = "00 01 02 03 05 09", [CALL_REJECT_TIMEOUT] = "00 01 02 03 05 09", [CALL_NO_REACTION] = "00 01 02 03 05 06",
     };
     struct octets may = hex(answers[call]);
-    return answer <= TCAP_WRONG_SHARES && memchr(may.octet, (int)answer, may.count) != NULL;
+    return answer <= TCAP_WRONG_PORTION && memchr(may.octet, (int)answer, may.count) != NULL;
 }
 
 uint8_t the_table[TCAP_TABLE_OCTETS];
@@ -188,12 +188,12 @@ struct tcap_reply make_call(const struct request *r, const struct lent *l)
     case CALL_ERROR: return tcap_error(TABLE, WHOSE, r->id, FIRST, SECOND);
     case CALL_REJECT: return tcap_reject(TABLE, WHOSE, r->id, r->number);
     case CALL_CANCEL: return tcap_cancel(TABLE, WHOSE, r->id);
-    case CALL_BEGIN: return tcap_begin(TABLE, WHOSE, SPACE);
-    case CALL_CONTINUE: return tcap_continue(TABLE, WHOSE, SPACE);
-    case CALL_END: return tcap_end(TABLE, WHOSE, SPACE);
+    case CALL_BEGIN: return tcap_begin(TABLE, WHOSE, FIRST, SECOND, SPACE);
+    case CALL_CONTINUE: return tcap_continue(TABLE, WHOSE, FIRST, SECOND, SPACE);
+    case CALL_END: return tcap_end(TABLE, WHOSE, FIRST, SECOND, SPACE);
     case CALL_END_PREARRANGED: return tcap_end_prearranged(TABLE, WHOSE);
     case CALL_ABORT: return tcap_abort(TABLE, WHOSE, FIRST, SPACE);
-    case CALL_UNIDIRECTIONAL: return tcap_unidirectional(TABLE, WHOSE, SPACE);
+    case CALL_UNIDIRECTIONAL: return tcap_unidirectional(TABLE, WHOSE, FIRST, SECOND, SPACE);
     case CALL_RECEIVE: return tcap_receive(TABLE, r->service, FIRST, ROWS, SPACE);
     case CALL_TIMEOUT: return tcap_timeout(TABLE, WHOSE, r->id, ROWS);
     case CALL_REJECT_TIMEOUT: return tcap_reject_timeout(TABLE, WHOSE, r->id);
@@ -262,7 +262,7 @@ enum { TABLE_REGION, ROWS_REGION, SPACE_REGION, FIRST_REGION, SECOND_REGION, REG
 static struct region regions[REGIONS] = { { 9, 0, 0, 0 }, { 2, 0, 0, 0 }, { 1, 0, 0, 0 }, { 1, 0, 0, 0 }, { 1, 0, 0, 0 } };
 static size_t page;
 static enum flush flush_side;
-unsigned long answered[CALLS][TCAP_WRONG_SHARES + 1];
+unsigned long answered[CALLS][TCAP_WRONG_PORTION + 1];
 
 static void faulted(int signal)
 {
@@ -347,7 +347,7 @@ const struct outcome *play(struct request r)
     l.first = lend(FIRST_REGION, r.first.count, r.first.octet, r.first.count);
     l.second = lend(SECOND_REGION, r.second.count, r.second.octet, r.second.count);
     o.reply = make_call(&r, &l);
-    answered[r.call][o.reply.answer % (TCAP_WRONG_SHARES + 1)]++;
+    answered[r.call][o.reply.answer % (TCAP_WRONG_PORTION + 1)]++;
     check_promises(&r, &o.reply);
     o.message.count = o.reply.length <= OCTETS_MOST ? o.reply.length : 0;
     memcpy(o.message.octet, l.space, o.message.count);
@@ -366,9 +366,22 @@ struct tcap_span play_parameter(struct octets message, size_t start, size_t leng
     return s;
 }
 
+const struct outcome *play_portion(struct octets message, size_t start, size_t length, size_t rows_octets)
+{
+    static struct outcome o;
+    const uint8_t *m = lend(FIRST_REGION, message.count, message.octet, message.count);
+    uint8_t *rows = lend(ROWS_REGION, rows_octets, o.rows, 0);
+    o.reply = tcap_portion(m, message.count, start, length, rows, rows_octets);
+    check(o.reply.answer == (rows_octets < TCAP_ROWS_OCTETS ? TCAP_WRONG_SIZE : TCAP_DONE), "portion: answer %u", o.reply.answer);
+    check(o.reply.rows == (o.reply.answer == TCAP_DONE) && o.reply.length == 0 && o.reply.dialogue == 0, "portion: what is told beside it");
+    check(kept(FIRST_REGION, 0) && kept(ROWS_REGION, o.reply.rows * TCAP_ROW_OCTETS), "portion: octets changed that it keeps");
+    memcpy(o.rows, rows, o.reply.rows * TCAP_ROW_OCTETS);
+    return &o;
+}
+
 /* ---- WHAT A CALL IS EXPECTED TO GIVE ------------------------------------------------------------------------------------------------- */
 
-static const char *rows_text(const struct outcome *o)
+const char *rows_text(const struct outcome *o)
 {
     static char text[TCAP_ROWS * 90];
     size_t end = 0;

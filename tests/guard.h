@@ -40,7 +40,7 @@ struct request {
     enum call call;
     uint32_t service, dialogue, number;                           /* number: the class, or the problem */
     int8_t id, linked;
-    struct octets first, second;  /* operation, error, portion, message or guarantees; parameter or limits */
+    struct octets first, second;  /* operation, error, portion, message, name or guarantees; parameter, information or limits */
     size_t table_octets, rows_octets, space_octets;               /* the sizes lent: the least ones, unless altered */
 };
 
@@ -91,12 +91,14 @@ struct outcome {
 };
 
 extern unsigned checks_passed, checks_failed;
-extern unsigned long answered[CALLS][TCAP_WRONG_SHARES + 1];      /* how often each call gave each answer */
+extern unsigned long answered[CALLS][TCAP_WRONG_PORTION + 1];     /* how often each call gave each answer */
 
 void guard_start(void);                                           /* maps the spaces; a fault from now on is a failure and the end */
 void guard_flush(enum flush side);
 const struct outcome *play(struct request r);                     /* makes the call; lasts until the next one */
 struct tcap_span play_parameter(struct octets message, size_t start, size_t length);
+const struct outcome *play_portion(struct octets message, size_t start, size_t length, size_t rows_octets);
+const char *rows_text(const struct outcome *o);                   /* the rows as decimal numbers, a ';' after each; lasts until the next one */
 
 /* ---- CHECKS -------------------------------------------------------------------------------------------------------------------------- */
 

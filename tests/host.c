@@ -545,6 +545,226 @@ static void answer_12_reject_and_portion(void)
     answers_sound(TCAP_TOO_LONG, with(ask(CALL_ABORT, 15, PLACE(0)), element(0x6B, primitive(400)), none));
 }
 
+/* ---- THE DIALOGUE PORTION (02 a) ----------------------------------------------------------------------------------------------------- */
+
+#define NAME hex("06 07 04 00 00 01 00 01 03")
+#define INFORMATION hex("BE 02 05 00")
+#define STRUCTURED "06 07 00 11 86 05 01 01 01"
+#define UNSTRUCTURED "06 07 00 11 86 05 01 02 01"
+#define ACCEPTED "A2 03 02 01 00 A3 05 A1 03 02 01 00"
+
+/* A whole portion around a PDU. */
+static struct octets portion(const char *identifier, struct octets pdu)
+{
+    return element(0x6B, element(0x28, join(hex(identifier), element(0xA0, pdu))));
+}
+
+static struct request give(enum call call, unsigned place, struct octets name, struct octets information)
+{
+    return with(ask(call, 15, PLACE(place)), name, information);
+}
+
+/* From Open, Received, Received and Open, octet by octet. */
+static void portions_written(void)
+{
+    four_states();
+    WRITES("62 2C 48 04 00 00 00 00 6B 1A 28 18 06 07 00 11 86 05 01 01 01 A0 0D 60 0B A1 09 06 07 04 00 00 01 00 01 03"
+           "6C 08 A1 06 02 01 01 02 01 3B", give(CALL_BEGIN, 0, NAME, none));
+    four_states();
+    WRITES("65 35 48 04 02 00 00 00 49 01 07 6B 2A 28 28 06 07 00 11 86 05 01 01 01 A0 1D 61 1B A1 09 06 07 04 00 00 01 00 01 03"
+           "A2 03 02 01 00 A3 05 A1 03 02 01 00 BE 02 05 00", give(CALL_CONTINUE, 2, NAME, INFORMATION));
+    WRITES("64 03 49 01 07", give(CALL_END, 2, none, none));
+    four_states();
+    WRITES("64 2B 49 01 07 6B 26 28 24 06 07 00 11 86 05 01 01 01 A0 19 61 17 A1 09 06 07 04 00 00 01 00 01 03"
+           "A2 03 02 01 00 A3 05 A1 03 02 01 00", give(CALL_END, 2, NAME, none));
+    four_states();
+    WRITES("61 2A 6B 1E 28 1C 06 07 00 11 86 05 01 02 01 A0 11 60 0F A1 09 06 07 04 00 00 01 00 01 03 BE 02 05 00"
+           "6C 08 A1 06 02 01 01 02 01 3B", give(CALL_UNIDIRECTIONAL, 0, NAME, INFORMATION));
+    four_states();
+    WRITES("67 1B 49 01 07 6B 16 28 14 06 07 00 11 86 05 01 01 01 A0 09 64 07 80 01 00 BE 02 05 00", give(CALL_ABORT, 3, INFORMATION, none));
+    WRITES("67 19 49 01 07 6B 14 28 12 06 07 00 11 86 05 01 01 01 A0 07 64 05 80 01 00 BE 00", give(CALL_ABORT, 2, hex("BE 00"), none));
+    WRITES("", give(CALL_ABORT, 0, INFORMATION, none));
+    WRITES("", give(CALL_ABORT, 1, INFORMATION, none));
+}
+
+/* Each call that takes a name, and a place whose state takes one. */
+static const struct { enum call call; unsigned place; size_t around; } takers[] = {
+    { CALL_BEGIN, 0, 24 }, { CALL_CONTINUE, 2, 36 }, { CALL_END, 2, 36 }, { CALL_UNIDIRECTIONAL, 0, 24 },
+};
+#define TAKERS (sizeof takers / sizeof *takers)
+
+static void answer_11_name_and_information(void)
+{
+    static const char *const names[] = { "06 01 2A", "06 07 04 00 00 01 00 01 03", NULL };
+    static const char *const no_names[] = { "06", "06 00", "06 02 2A", "06 01 2A 00", "06 01 2A 06 01 2A", "02 01 2A", "26 03 06 01 2A", "06 80 2A 00 00", "A1 03 06 01 2A", "BE 00", NULL };
+    static const char *const informations[] = { "BE 00", "BE 02 05 00", "BE 80 05 00 00 00", "BE 04 05 00 05 00", NULL };
+    static const char *const no_informations[] = { "BE", "BE 01", "BE 02 05", "BE 02 05 01", "BE 00 BE 00", "BE 80 00", "9E 00", "30 00", "06 01 2A", NULL };
+    for (size_t i = 0; i < TAKERS; i++) {
+        for (const char *const *n = names; *n; n++)
+            for (const char *const *u = informations; *u; u++) {
+                four_states();
+                CHECK(play(give(takers[i].call, takers[i].place, hex(*n), hex(*u)))->reply.answer == TCAP_DONE, "%s and %s are taken", *n, *u);
+            }
+        for (const char *const *n = no_names; *n; n++)
+            answers_sound(TCAP_WRONG_OCTETS, give(takers[i].call, takers[i].place, hex(*n), none));
+        for (const char *const *u = no_informations; *u; u++) {
+            answers_sound(TCAP_WRONG_OCTETS, give(takers[i].call, takers[i].place, NAME, hex(*u)));
+            answers_sound(TCAP_WRONG_OCTETS, give(takers[i].call, takers[i].place, none, hex(*u)));
+            if (u[0][0] == 'B')
+                answers_sound(TCAP_WRONG_OCTETS, give(CALL_ABORT, 2, hex(*u), none));
+        }
+    }
+}
+
+/* The information stands at depth 5 of its portion. */
+static void answer_11_information_depth(void)
+{
+    for (size_t i = 0; i < TAKERS; i++) {
+        four_states();
+        CHECK(play(give(takers[i].call, takers[i].place, NAME, element(0xBE, nested(11, 0x30))))->reply.answer == TCAP_DONE, "depth 16 is taken");
+        answers_sound(TCAP_WRONG_OCTETS, give(takers[i].call, takers[i].place, NAME, element(0xBE, nested(12, 0x30))));
+    }
+    four_states();
+    CHECK(play(give(CALL_ABORT, 2, element(0xBE, nested(11, 0x30)), none))->reply.answer == TCAP_DONE, "depth 16 is taken");
+    answers_sound(TCAP_WRONG_OCTETS, give(CALL_ABORT, 2, element(0xBE, nested(12, 0x30)), none));
+}
+
+/* A name of so many octets in all, over 130. */
+static struct octets name_of(size_t octets) { return element(0x06, repeat(octets - 3, one(0x2A))); }
+
+/* Portion and waiting components of 240 octets together are taken, 241 aren't; 12 comes before 14. */
+static void answer_12_with_a_portion(void)
+{
+    for (size_t i = 0; i < TAKERS; i++)
+        for (size_t octets = 240; octets <= 241; octets++) {
+            size_t waiting = takers[i].place == 0 ? 8 : 0;
+            struct request r = give(takers[i].call, takers[i].place, name_of(octets - waiting - takers[i].around), none);
+            four_states();
+            CHECK(play(r)->reply.answer == (octets == 240 ? TCAP_DONE : TCAP_TOO_LONG), "%s with %zu octets", call_names[r.call], octets);
+        }
+    answers_sound(TCAP_TOO_LONG, give(CALL_BEGIN, 0, name_of(500), none));
+    answers_sound(TCAP_TOO_LONG, give(CALL_BEGIN, 0, none, element(0xBE, primitive(500))));
+    answers_sound(TCAP_TOO_LONG, give(CALL_CONTINUE, 3, name_of(205), none));
+    answers_sound(TCAP_WRONG_PORTION, give(CALL_CONTINUE, 3, name_of(204), none));
+    answers_sound(TCAP_TOO_LONG, give(CALL_BEGIN, 0, none, element(0xBE, primitive(220 - 8 - 3))));
+    answers_sound(TCAP_WRONG_PORTION, give(CALL_BEGIN, 0, none, element(0xBE, primitive(219 - 8 - 3))));
+    four_states();
+    CHECK(play(give(CALL_ABORT, 2, element(0xBE, primitive(213)), none))->message.count == 246, "an ABRT of 240 octets");
+    answers_sound(TCAP_TOO_LONG, give(CALL_ABORT, 2, element(0xBE, primitive(214)), none));
+    answers_sound(TCAP_TOO_LONG, give(CALL_ABORT, 0, element(0xBE, primitive(400)), none));
+}
+
+/* A waiting reject of 7 octets goes along with a portion of 233 octets, and waits beside one of 234. */
+static void rejects_beside_a_portion(void)
+{
+    for (size_t octets = 233; octets <= 234; octets++) {
+        struct octets name = name_of(octets - 36), whole = portion(STRUCTURED, element(0x61, join(element(0xA1, name), hex(ACCEPTED))));
+        struct octets list = octets == 233 ? hex("6C 07 A4 05 05 00 80 01 02") : none;
+        start();
+        SHOWS("2 0 256 256 65535 0 0 1;13 0 256 256 2 0 0 0;", ask_receive(3, hex("62 05 48 01 07 6C 00")));
+        AT;
+        expect(TCAP_DONE, 0, element(0x65, join(hex("48 04 00 00 00 00 49 01 07"), join(whole, list))), "", with(ask(CALL_CONTINUE, 3, 0), name, none));
+        if (octets == 234)
+            WRITES("65 12 48 04 00 00 00 00 49 01 07 6C 07 A4 05 05 00 80 01 02", ask(CALL_CONTINUE, 3, 0));
+    }
+}
+
+/* In Open, Sent, Received and Active: the state (6) comes first, 11 before 14. */
+static void answer_14(void)
+{
+    static const struct { enum call call; uint32_t named[4], unnamed[4]; } states[] = {
+        { CALL_BEGIN, { 0, 6, 6, 6 }, { 14, 6, 6, 6 } }, { CALL_CONTINUE, { 6, 6, 0, 14 }, { 6, 6, 14, 14 } },
+        { CALL_END, { 6, 6, 0, 14 }, { 6, 6, 14, 14 } }, { CALL_UNIDIRECTIONAL, { 0, 6, 6, 6 }, { 14, 6, 6, 6 } },
+    };
+    for (size_t i = 0; i < sizeof states / sizeof *states; i++)
+        for (unsigned place = 0; place < 4; place++) {
+            uint32_t wrong = states[i].unnamed[place] == 6 ? 6 : 11;
+            answers_sound(states[i].named[place], give(states[i].call, place, NAME, none));
+            answers_sound(states[i].named[place], give(states[i].call, place, NAME, INFORMATION));
+            answers_sound(states[i].unnamed[place], give(states[i].call, place, none, INFORMATION));
+            answers_sound(wrong, give(states[i].call, place, hex("06 00"), none));
+            answers_sound(wrong, give(states[i].call, place, none, hex("BE 01")));
+        }
+}
+
+static void portion_is(const char *row, struct octets message, size_t start_, size_t length)
+{
+    const char *got = rows_text(play_portion(message, start_, length, TCAP_ROWS_OCTETS));
+    check(strcmp(got, row) == 0, "portion of %zu, %zu: '%s', not '%s'", start_, length, got, row);
+}
+
+#define READS(row, ...) do { struct octets p = __VA_ARGS__; AT; portion_is(row, p, 0, p.count); } while (0)
+#define OPAQUE "1 0 0 0 0 65535 65535 65535;"
+#define NOTHING "0 0 0 0 0 65535 65535 65535;"
+
+static void portions_read(void)
+{
+    READS("2 19 9 0 0 65535 65535 65535;", portion(STRUCTURED, element(0x60, element(0xA1, NAME))));
+    READS("2 23 9 32 4 65535 65535 65535;", portion(STRUCTURED, element(0x60, join(join(hex("80 02 07 80"), element(0xA1, NAME)), INFORMATION))));
+    READS("3 19 9 0 0 0 256 65535;", portion(STRUCTURED, element(0x61, join(element(0xA1, NAME), hex(ACCEPTED)))));
+    READS("3 19 3 34 2 1 514 65535;", portion(STRUCTURED, element(0x61, hex("A1 03 06 01 2A A2 03 02 01 01 A3 05 A2 03 02 01 02 BE 00"))));
+    READS("4 0 0 0 0 65535 65535 1;", portion(STRUCTURED, element(0x64, hex("80 01 01"))));
+    READS("4 0 0 20 4 65535 65535 0;", portion(STRUCTURED, element(0x64, join(hex("80 01 00"), INFORMATION))));
+    READS("5 19 9 0 0 65535 65535 65535;", portion(UNSTRUCTURED, element(0x60, element(0xA1, NAME))));
+    READS("3 19 3 42 4 0 257 65535;", hex("6B 80 28 80 " STRUCTURED "A0 80 61 80 A1 80 06 01 2A 00 00 A2 80 02 01 00 00 00 A3 80 A1 80 02 01 01"
+                                          "00 00 00 00 BE 80 00 00 00 00 00 00 00 00 00 00"));
+}
+
+static void portions_opaque(void)
+{
+    static const char *const requests[] = {
+        "", "A1 02 06 00", "A1 03 02 01 2A", "A1 06 06 01 2A 06 01 2A", "A1 03 06 01 2A 05 00", "BE 00 A1 03 06 01 2A", "A1 03 06 01 2A BE 00 BE 00",
+        "A1 03 06 01 2A 80 02 07 80", "80 00 80 00 A1 03 06 01 2A", "A1 03 06 01 2A A2 03 02 01 00 A3 05 A1 03 02 01 00", NULL
+    };
+    static const char *const responses[] = {
+        "A1 03 06 01 2A", "A1 03 06 01 2A A2 03 02 01 00", "A1 03 06 01 2A A2 03 02 01 02 A3 05 A1 03 02 01 00",
+        "A1 03 06 01 2A A2 03 02 01 00 A3 05 A1 03 02 01 03", "A1 03 06 01 2A A2 03 02 01 00 A3 05 A0 03 02 01 00",
+        "A1 03 06 01 2A A2 04 02 02 00 00 A3 05 A1 03 02 01 00", "A1 03 06 01 2A A3 05 A1 03 02 01 00 A2 03 02 01 00",
+        "A1 03 06 01 2A A2 03 02 01 00 A3 07 A1 03 02 01 00 05 00", "A2 03 02 01 00 A3 05 A1 03 02 01 00", NULL
+    };
+    static const char *const aborts[] = { "", "BE 00", "80 01 02", "80 02 00 00", "80 02 07 80 80 01 00", "80 01 00 05 00", "BE 00 80 01 00", NULL };
+    for (const char *const *c = requests; *c; c++)
+        READS(OPAQUE, portion(STRUCTURED, element(0x60, hex(*c))));
+    for (const char *const *c = responses; *c; c++)
+        READS(OPAQUE, portion(STRUCTURED, element(0x61, hex(*c))));
+    for (const char *const *c = aborts; *c; c++)
+        READS(OPAQUE, portion(STRUCTURED, element(0x64, hex(*c))));
+    READS(OPAQUE, portion(UNSTRUCTURED, element(0x61, join(element(0xA1, NAME), hex(ACCEPTED)))));
+    READS(OPAQUE, portion(UNSTRUCTURED, element(0x64, hex("80 01 00"))));
+    READS(OPAQUE, portion("06 07 00 11 86 05 01 01 02", element(0x60, element(0xA1, NAME))));
+    READS(OPAQUE, portion(STRUCTURED, join(element(0x60, element(0xA1, NAME)), hex("05 00"))));
+    READS(OPAQUE, hex("6B 00"));
+    READS(OPAQUE, hex("6B 02 28 00"));
+    READS(OPAQUE, element(0x6B, join(element(0x28, join(hex(STRUCTURED), element(0xA0, element(0x60, element(0xA1, NAME))))), hex("05 00"))));
+    READS(OPAQUE, element(0x6B, element(0x28, join(hex(STRUCTURED), join(element(0xA0, element(0x60, element(0xA1, NAME))), hex("05 00"))))));
+}
+
+/* The run counts, wherever it stands; one that isn't a well-formed 6B inside the message is none, whatever its numbers. */
+static void portions_by_their_run(void)
+{
+    struct octets p = portion(STRUCTURED, element(0x60, element(0xA1, NAME))), m = join(join(hex("62 21 48 01 07"), p), hex("6C 00"));
+    AT, portion_is("2 24 9 0 0 65535 65535 65535;", m, 5, p.count);
+    AT, portion_is(NOTHING, m, 5, p.count - 1);
+    AT, portion_is(NOTHING, m, 5, p.count + 1);
+    AT, portion_is(NOTHING, m, 4, p.count);
+    AT, portion_is(NOTHING, m, 6, p.count);
+    AT, portion_is(NOTHING, m, 0, m.count);
+    AT, portion_is(NOTHING, m, 0, 0);
+    AT, portion_is(NOTHING, m, m.count, 0);
+    AT, portion_is(NOTHING, m, 5, m.count);
+    AT, portion_is(NOTHING, m, SIZE_MAX, 2);
+    AT, portion_is(NOTHING, m, SIZE_MAX - 4, p.count);
+    AT, portion_is(NOTHING, m, 5, SIZE_MAX);
+    AT, portion_is(NOTHING, none, 0, 0);
+    READS(NOTHING, hex("6C 00"));
+    READS(NOTHING, hex("6B 01 05"));
+    READS(NOTHING, nested(17, 0x6B));
+    READS(OPAQUE, nested(16, 0x6B));
+    for (size_t n = TCAP_ROWS_OCTETS - 1; n <= TCAP_ROWS_OCTETS + 1; n++)
+        play_portion(m, 5, p.count, n);
+    play_portion(m, 5, p.count, 0);
+}
+
 /* ---- A FRESH TABLE ------------------------------------------------------------------------------------------------------------------- */
 
 static void fresh_sizes(void)
@@ -847,7 +1067,7 @@ static void parameter_found(void)
 static void every_answer(void)
 {
     for (int call = CALL_FRESH; call < CALLS; call++)
-        for (uint32_t answer = TCAP_DONE; answer <= TCAP_WRONG_SHARES; answer++)
+        for (uint32_t answer = TCAP_DONE; answer <= TCAP_WRONG_PORTION; answer++)
             if (may_answer((enum call)call, answer))
                 CHECK(answered[call][answer] > 0, "%s was never answered %u", call_names[call], answer);
 }
@@ -860,7 +1080,8 @@ static const struct { const char *name; void (*run)(void); } tests[] = {
     T(answer_6_before_the_next), T(answer_6_unidirectional), T(answer_7), T(guarantees_are_kept), T(all_places), T(turns_go_round),
     T(turns_in_messages), T(answer_8_classes), T(answer_8_problems), T(answer_9), T(answer_9_after_a_result_not_last),
     T(answer_9_until_idle), T(answer_10), T(answer_11), T(answer_11_depth), T(answer_11_portion), T(answer_12),
-    T(answer_12_reject_and_portion), T(fresh_sizes), T(answer_13), T(fresh_on_any_octets), T(p1_to_p5), T(p6_to_p8),
+    T(answer_12_reject_and_portion), T(portions_written), T(answer_11_name_and_information), T(answer_11_information_depth),
+    T(answer_12_with_a_portion), T(rejects_beside_a_portion), T(answer_14), T(portions_read), T(portions_opaque), T(portions_by_their_run), T(fresh_sizes), T(answer_13), T(fresh_on_any_octets), T(p1_to_p5), T(p6_to_p8),
     T(messages_of_every_kind), T(aborts_written), T(every_component_written), T(the_longest_message), T(rejects_that_fit),
     T(rows_of_a_message), T(rows_of_each_component), T(syntax_faults), T(a_ninth_reject), T(faults_free_the_place), T(dropped),
     T(the_most_rows), T(timers), T(parameter_found), T(every_answer),

@@ -70,6 +70,30 @@ static struct octets random_parameter(void)
     return once_in(2) ? none : once_in(10) ? primitive(150 + below(100)) : random_element((int)below(18));
 }
 
+/* A context name and user information, most times none. */
+static struct octets random_name(void)
+{
+    return once_in(2) ? none : once_in(10) ? random_code() : element(0x06, random_octets(1 + below(once_in(6) ? 220 : 9)));
+}
+
+static struct octets random_information(void)
+{
+    return once_in(2) ? none : once_in(10) ? random_parameter() : element(0xBE, random_element((int)below(14)));
+}
+
+static struct octets random_portion(void)
+{
+    struct octets version = once_in(2) ? hex("80 02 07 80") : none, name = element(0xA1, random_name()), pdu;
+    struct octets accepted = join(element(0xA2, element(0x02, one(below(3)))), element(0xA3, element(0xA1 + below(2), element(0x02, one(below(4))))));
+    switch (below(4)) {
+    case 0: pdu = element(0x60, join(join(version, name), random_information())); break;
+    case 1: pdu = element(0x61, join(join(version, name), join(accepted, random_information()))); break;
+    case 2: pdu = element(0x64, join(element(0x80, one(below(3))), random_information())); break;
+    default: return element(0x6B, random_element(3));
+    }
+    return element(0x6B, element(0x28, join(once_in(3) ? hex("06 07 00 11 86 05 01 02 01") : hex("06 07 00 11 86 05 01 01 01"), element(0xA0, pdu))));
+}
+
 /* Octets that were sound, with something changed, cut, put in or added. */
 static struct octets damaged(struct octets o)
 {
@@ -156,7 +180,7 @@ static struct octets random_message(const uint8_t *place, uint32_t dialogue)
     if (type != 0x61 && type != 0x62)
         contents = join(contents, element(0x49, id));
     if (once_in(4))
-        contents = join(contents, element(0x6B, random_element(3)));
+        contents = join(contents, random_portion());
     if (type == 0x67 && once_in(2))
         contents = join(contents, element(0x4A, one(below(6))));
     for (uint32_t n = below(4); n > 0 && list.count < 150; n--)
@@ -233,7 +257,9 @@ static struct request random_request(struct peer *me)
     r.number = random_class_or_problem(call);
     r = with(r, random_code(), random_parameter());
     if (call == CALL_ABORT)
-        r.first = once_in(3) ? none : once_in(10) ? random_octets(below(10)) : element(0x6B, random_parameter());
+        r.first = once_in(3) ? random_information() : once_in(10) ? random_octets(below(10)) : element(0x6B, random_parameter());
+    if (call == CALL_BEGIN || call == CALL_CONTINUE || call == CALL_END || call == CALL_UNIDIRECTIONAL)
+        r = with(r, random_name(), random_information());
     if ((call == CALL_RESULT_LAST || call == CALL_RESULT_NOT_LAST) && once_in(3))
         r.first = r.second = none;
     return r;
@@ -262,11 +288,11 @@ static void alter_table(enum kind kind)
         the_table[i] = (uint8_t)random_number();
 }
 
-static unsigned long answers[TCAP_WRONG_SHARES + 1], kinds[TCAP_L_CANCEL + 1];
+static unsigned long answers[TCAP_WRONG_PORTION + 1], kinds[TCAP_L_CANCEL + 1];
 
 static void count_outcome(const struct outcome *o)
 {
-    answers[o->reply.answer <= TCAP_WRONG_SHARES ? o->reply.answer : 0]++;
+    answers[o->reply.answer <= TCAP_WRONG_PORTION ? o->reply.answer : 0]++;
     for (size_t row = 0; row < o->reply.rows; row++) {
         uint32_t kind = tcap_row(o->rows, row, TCAP_ROW_KIND);
         check(kind >= TCAP_UNI && kind <= TCAP_L_CANCEL, "a row of kind %u", kind);
@@ -293,7 +319,9 @@ static void one_call(unsigned long n)
     count_outcome(o);
     if (r.call == CALL_RECEIVE && o->reply.rows > 0) {
         size_t row = below(o->reply.rows), beside = once_in(4) ? below(3) : 0;
-        play_parameter(r.first, tcap_row(o->rows, row, TCAP_ROW_START) + beside, tcap_row(o->rows, row, TCAP_ROW_LENGTH));
+        uint32_t start = tcap_row(o->rows, row, TCAP_ROW_START), length = tcap_row(o->rows, row, TCAP_ROW_LENGTH);
+        play_parameter(r.first, start + beside, length);
+        play_portion(r.first, start + beside, length, TCAP_ROWS_OCTETS - once_in(20));
     }
     if (kind != SOUND)
         return;
@@ -327,7 +355,7 @@ int main(int argc, char **argv)
         if (n % 100000 == 0)
             fprintf(stderr, "random: %lu calls, %u failed\n", n, checks_failed);
     }
-    report("answer", answers, TCAP_DONE, TCAP_WRONG_SHARES, calls >= 50000);
+    report("answer", answers, TCAP_DONE, TCAP_WRONG_PORTION, calls >= 50000);
     report("row kind", kinds, TCAP_UNI, TCAP_L_CANCEL, calls >= 50000);
     printf("random: %lu calls, %u failed\n", calls, checks_failed);
     return checks_failed > 0;

@@ -34,6 +34,11 @@ static void the_parameter(void)
     span = tcap_parameter(asked.first.octet, asked.first.count, 0, asked.first.count);
 }
 
+static void the_portion(void)
+{
+    reply = tcap_portion(asked.first.octet, asked.first.count, 0, asked.first.count, rows, sizeof rows);
+}
+
 static size_t depth(void (*on_own_stack)(void))
 {
     size_t clean = 0;
@@ -130,6 +135,8 @@ static void measure_call(enum call call, enum form form, unsigned place)
             measure(with(r, repeat(16, one(0)), repeat(16, one(128))));
         else if (call == CALL_ABORT)
             measure(with(r, element(0x6B, parameter(form, levels)), none));
+        else if ((call >= CALL_BEGIN && call <= CALL_END) || call == CALL_UNIDIRECTIONAL)
+            measure(with(r, hex("06 03 04 00 00"), element(0xBE, parameter(form, levels - 4))));
         else if (call == CALL_RECEIVE)
             for (size_t i = 0; i < sizeof types / sizeof *types; i++)
                 measure(with(r, message(form, types[i], levels), none));
@@ -155,6 +162,23 @@ static void measure_parameter(void)
     printf("%-16s %6zu\n", "parameter", most - depth(nothing));
 }
 
+/* A response whose information nests to depth 16. */
+static void measure_portion(void)
+{
+    size_t most = 0;
+    for (int form = 0; form < FORMS; form++) {
+        struct octets pdu = join(hex("80 02 07 80 A1 03 06 01 2A A2 03 02 01 00 A3 05 A1 03 02 01 00"), element(0xBE, parameter((enum form)form, 11)));
+        size_t octets;
+        asked.first = element(0x6B, element(0x28, join(hex("06 07 00 11 86 05 01 01 01"), element(0xA0, element(0x61, pdu)))));
+        octets = depth(the_portion);
+        most = octets > most ? octets : most;
+        if (tcap_portion_number(rows, TCAP_PORTION_KIND) != TCAP_AARE)
+            exit(1);
+    }
+    asked.first = none;
+    printf("%-16s %6zu\n", "portion", most - depth(nothing));
+}
+
 int main(void)
 {
     size_t own;
@@ -171,5 +195,6 @@ int main(void)
         printf("%-16s %6zu\n", call_names[call], deepest - own);
     }
     measure_parameter();
+    measure_portion();
     return 0;
 }

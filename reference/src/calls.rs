@@ -1,5 +1,6 @@
-//! The calls, their answer numbers and what they give (01, Answer numbers).
+//! The calls, their answer numbers and what they give (01, Answer numbers; 02 a).
 
+use crate::given::Given;
 use crate::receive;
 use crate::requests::{self, Answer};
 use crate::rules;
@@ -18,6 +19,7 @@ pub const FULL: u8 = 10;
 pub const BAD_ELEMENT: u8 = 11;
 pub const TOO_LONG: u8 = 12;
 pub const BAD_SHARES: u8 = 13;
+pub const MISPLACED_PORTION: u8 = 14;
 
 const LONGEST_MESSAGE: usize = 512;
 
@@ -29,11 +31,11 @@ pub enum Request {
     Error { id: i8, error: Vec<u8>, parameter: Vec<u8> },
     Reject { id: i8, problem: u32 },
     Cancel { id: i8 },
-    Begin,
-    Continue,
-    End,
+    Begin(Given),
+    Continue(Given),
+    End(Given),
     Prearranged,
-    Unidirectional,
+    Unidirectional(Given),
     Abort { portion: Vec<u8> },
     Timeout { id: i8 },
     RejectTimeout { id: i8 },

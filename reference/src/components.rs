@@ -1,6 +1,7 @@
 //! Components read (01, Coding and the syntax rules of Invocation states).
 
 use crate::coding::{self, Frame};
+use crate::pieces::Pieces;
 use crate::problems::Problem;
 use std::ops::Range;
 
@@ -139,45 +140,7 @@ struct Parts {
     parameter: Range<usize>,
 }
 
-/// The elements within a well-formed component, taken one after another.
-struct Pieces<'a> {
-    octets: &'a [u8],
-    at: usize,
-}
-
-impl<'a> Pieces<'a> {
-    fn of(octets: &'a [u8], contents: &Range<usize>) -> Pieces<'a> {
-        Pieces { octets: &octets[..contents.end], at: contents.start }
-    }
-
-    fn next_tag(&self) -> Option<u8> {
-        self.octets.get(self.at).copied()
-    }
-
-    fn finished(&self) -> bool {
-        self.at == self.octets.len()
-    }
-
-    fn take(&mut self) -> Option<Frame> {
-        let frame = coding::frame(self.octets, self.at, 2)?;
-        self.at = frame.whole.end;
-        Some(frame)
-    }
-
-    fn take_tagged(&mut self, tag: u8) -> Option<Frame> {
-        if self.next_tag() == Some(tag) {
-            self.take()
-        } else {
-            None
-        }
-    }
-
-    /// A piece of one octet.
-    fn octet(&mut self, tag: u8) -> Option<u8> {
-        let contents = self.take_tagged(tag)?.contents;
-        (contents.len() == 1).then(|| self.octets[contents.start])
-    }
-
+impl Pieces<'_> {
     fn id(&mut self, tag: u8) -> Option<i8> {
         self.octet(tag).map(|octet| octet as i8)
     }
@@ -223,8 +186,7 @@ impl<'a> Pieces<'a> {
         if self.finished() {
             return Some(Parts { id, ..Parts::default() });
         }
-        let contents = self.take_tagged(0x30)?.contents;
-        let mut inner = Pieces::of(self.octets, &contents);
+        let mut inner = self.inside(0x30)?;
         inner.code()?;
         let parameter = inner.take()?.whole;
         inner.finished().then_some(Parts { id, parameter, ..Parts::default() })

@@ -3,6 +3,7 @@
 
 use crate::calls::{self, Call, Reply, Request};
 use crate::coding;
+use crate::given::Given;
 use crate::shares::SERVICES;
 use crate::table::Table;
 use crate::writing;
@@ -58,7 +59,7 @@ fn lifetime(rounds: usize) -> Sums {
         let parameter = Vec::new();
         let invoke = Request::Invoke { id: 5, linked: None, class: 1, operation: OPERATION.to_vec(), parameter };
         bench.request(local_id, invoke);
-        bench.request(local_id, Request::Begin);
+        bench.request(local_id, Request::Begin(Given::NONE));
         let octets = coding::write(0x64, &coding::write(0x49, &local_id.to_be_bytes()));
         bench.call(&Call::Receive { service: SERVICE, octets });
     }
@@ -72,7 +73,7 @@ impl Bench {
         bench.call(&Call::Fresh { guarantees: [0; SERVICES], limits: [128; SERVICES] });
         for _ in 0..dialogues {
             let local_id = bench.call(&Call::Open { service: SERVICE }).dialogue.unwrap_or(0);
-            bench.request(local_id, Request::Begin);
+            bench.request(local_id, Request::Begin(Given::NONE));
             bench.call(&Call::Receive { service: SERVICE, octets: continue_to(local_id, &[]) });
         }
         Bench { sums: Sums::default(), ..bench }

@@ -65,12 +65,17 @@ impl Dialogue {
         stored
     }
 
-    /// The components that a sending writes: those that wait, then the rejects if all fit.
-    pub fn send(&mut self) -> Vec<u8> {
+    /// Whether a portion of this length may go with the components that wait.
+    pub fn may_send_with(&self, portion: &[u8]) -> bool {
+        self.waiting.len() + portion.len() <= MOST_WAITING
+    }
+
+    /// The components that a sending writes: those that wait, then the rejects if all fit beside the portion.
+    pub fn send(&mut self, portion: &[u8]) -> Vec<u8> {
         let mut components = std::mem::take(&mut self.waiting);
         let rejects: Vec<u8> =
             self.rejects.iter().flat_map(|reject| writing::reject(reject.id, reject.problem)).collect();
-        if components.len() + rejects.len() <= MOST_WAITING {
+        if portion.len() + components.len() + rejects.len() <= MOST_WAITING {
             components.extend(rejects);
             self.rejects.clear();
         }

@@ -2,8 +2,11 @@
 
 mod asked;
 mod floods;
+mod giving;
 mod limits;
 mod octets;
+mod pdus;
+mod portions;
 mod random;
 mod recorder;
 mod samples;
@@ -37,12 +40,13 @@ pub fn make(out: &mut impl Write, seed: u64, calls: usize) -> io::Result<()> {
 }
 
 fn sequences(random: &mut Random) -> (&'static str, Vec<Recorder>) {
-    match random.weighted(&[5, 3, 1, 3, 3, 4]) {
+    match random.weighted(&[5, 3, 1, 3, 3, 4, 5]) {
         0 => ("mixed", traffic::sequences(random, 1)),
         1 => ("peers", traffic::sequences(random, 2)),
         2 => ("shares", floods::sequences(random)),
         3 => ("limits", limits::sequences(random)),
         4 => ("states", states::sequences(random)),
-        _ => ("octets", octets::sequences(random)),
+        5 => ("octets", octets::sequences(random)),
+        _ => ("portion", portions::sequences(random)),
     }
 }

@@ -1,10 +1,12 @@
-//! Requests of the user (01, Dialogue states and Invocation states). Each judges its refusals in rising order.
+//! Requests of the user (01, Dialogue states and Invocation states; 02 a). Each judges its refusals in rising order.
 
 use crate::calls::{refuse_unless, Reply, Request};
-use crate::calls::{BAD_CLASS_OR_PROBLEM, BAD_ELEMENT, FULL, NO_DIALOGUE, NO_PLACE, TOO_LONG, WRONG_ID, WRONG_STATE};
+use crate::calls::{BAD_CLASS_OR_PROBLEM, BAD_ELEMENT, FULL, MISPLACED_PORTION, NO_DIALOGUE, NO_PLACE, TOO_LONG};
+use crate::calls::{WRONG_ID, WRONG_STATE};
 use crate::coding;
 use crate::components::{self, Kind};
 use crate::dialogue::{Dialogue, State, MOST_WAITING};
+use crate::given::{self, Given, Pdu};
 use crate::problems::{Problem, Sender};
 use crate::shares;
 use crate::table::Table;
@@ -30,11 +32,11 @@ pub fn on_dialogue(table: &mut Table, service: u8, local_id: u32, request: &Requ
         Request::Result { id, last, operation, parameter } => held.result(*id, *last, operation, parameter),
         Request::Error { id, error, parameter } => held.error(*id, error, parameter),
         Request::Reject { id, problem } => held.reject(*id, *problem),
-        Request::Begin => held.begin(),
-        Request::Continue => held.continue_(),
-        Request::End => held.end(),
+        Request::Begin(given) => held.begin(given),
+        Request::Continue(given) => held.continue_(given),
+        Request::End(given) => held.end(given),
         Request::Prearranged => Ok(held.freed(Vec::new())),
-        Request::Unidirectional => held.unidirectional(),
+        Request::Unidirectional(given) => held.unidirectional(given),
         Request::Abort { portion } => held.abort(portion),
         Request::Cancel { id } => held.cancel(*id),
         Request::Timeout { id } => held.timeout(*id),
@@ -112,39 +114,51 @@ impl Held<'_> {
         Ok(self.kept(Vec::new()))
     }
 
-    fn begin(mut self) -> Answer {
+    /// The portion that goes with a sending; no octets for none.
+    fn portion(&self, pdu: Pdu, given: &Given) -> Result<Vec<u8>, u8> {
+        refuse_unless(given.is_sound(), BAD_ELEMENT)?;
+        let portion = given.portion(pdu);
+        refuse_unless(self.dialogue.may_send_with(&portion), TOO_LONG)?;
+        refuse_unless(given.suits(self.dialogue.state), MISPLACED_PORTION)?;
+        Ok(portion)
+    }
+
+    fn begin(mut self, given: &Given) -> Answer {
         refuse_unless(self.dialogue.state == State::Open, WRONG_STATE)?;
-        let message = writing::begin(self.local_id, &self.dialogue.send());
+        let portion = self.portion(Pdu::Request, given)?;
+        let message = writing::begin(self.local_id, &portion, &self.dialogue.send(&portion));
         self.dialogue.state = State::Sent;
         Ok(self.kept(message))
     }
 
-    fn continue_(mut self) -> Answer {
+    fn continue_(mut self, given: &Given) -> Answer {
         let peer = self.dialogue.peer.ok_or(WRONG_STATE)?;
-        let message = writing::continue_(self.local_id, peer, &self.dialogue.send());
+        let portion = self.portion(Pdu::Response, given)?;
+        let message = writing::continue_(self.local_id, peer, &portion, &self.dialogue.send(&portion));
         self.dialogue.state = State::Active;
         Ok(self.kept(message))
     }
 
-    fn end(mut self) -> Answer {
+    fn end(mut self, given: &Given) -> Answer {
         let peer = self.dialogue.peer.ok_or(WRONG_STATE)?;
-        let message = writing::end(peer, &self.dialogue.send());
+        let portion = self.portion(Pdu::Response, given)?;
+        let message = writing::end(peer, &portion, &self.dialogue.send(&portion));
         Ok(self.freed(message))
     }
 
-    fn unidirectional(mut self) -> Answer {
+    fn unidirectional(mut self, given: &Given) -> Answer {
         let is_open = self.dialogue.state == State::Open;
         refuse_unless(is_open && self.dialogue.suits_unidirectional(), WRONG_STATE)?;
-        let message = writing::unidirectional(&self.dialogue.send());
+        let portion = self.portion(Pdu::Unidirectional, given)?;
+        let message = writing::unidirectional(&portion, &self.dialogue.send(&portion));
         Ok(self.freed(message))
     }
 
     /// The user's abort writes a message only where a peer's ID is known.
-    fn abort(self, portion: &[u8]) -> Answer {
-        let sound = portion.first().is_none_or(|tag| *tag == 0x6B && coding::is_element(portion, 1));
-        refuse_unless(sound, BAD_ELEMENT)?;
+    fn abort(self, octets: &[u8]) -> Answer {
+        let portion = given::abort_portion(octets).ok_or(BAD_ELEMENT)?;
         refuse_unless(portion.len() <= MOST_WAITING, TOO_LONG)?;
-        let message = self.dialogue.peer.map_or(Vec::new(), |peer| writing::user_abort(peer, portion));
+        let message = self.dialogue.peer.map_or(Vec::new(), |peer| writing::user_abort(peer, &portion));
         Ok(self.freed(message))
     }
 }

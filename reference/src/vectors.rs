@@ -2,6 +2,8 @@
 
 use crate::calls::{self, Call, Reply, Request};
 use crate::components::{self, Component};
+use crate::given::Given;
+use crate::portion;
 use crate::reader;
 use crate::requests::Answer;
 use crate::rows;
@@ -14,6 +16,7 @@ pub enum Line {
     Call(Call),
     Parameter { octets: Vec<u8>, start: usize, length: usize },
     Components { octets: Vec<u8> },
+    Portion { octets: Vec<u8>, start: u64, length: u64 },
 }
 
 /// Whether a line of a vector is one that its player computes.
@@ -34,6 +37,9 @@ pub fn expectation(table: &mut Table, line: &Line) -> String {
             let lines: String = components.iter().map(component_line).collect();
             format!("= {}\n{lines}", components.len())
         }
+        Line::Portion { octets, start, length } => {
+            format!("={}\n", numbers_text(&portion::read(octets, *start, *length).numbers()))
+        }
     }
 }
 
@@ -49,10 +55,13 @@ fn reply_text(reply: &Reply) -> String {
     let dialogue = reply.dialogue.map_or("-".to_string(), |local_id| format!("{local_id:08X}"));
     let mut text = format!("= 0 {dialogue} {} {}\n", hex(&reply.message), reply.rows.len());
     for row in &reply.rows {
-        let numbers: String = row.numbers().iter().map(|number| format!(" {number}")).collect();
-        text += &format!("r{numbers}\n");
+        text += &format!("r{}\n", numbers_text(&row.numbers()));
     }
     text
+}
+
+fn numbers_text(numbers: &[u32; 8]) -> String {
+    numbers.iter().map(|number| format!(" {number}")).collect()
 }
 
 fn component_line(component: &Component) -> String {
@@ -91,6 +100,7 @@ impl fmt::Display for Line {
             }
             Line::Parameter { octets, start, length } => write!(out, "parameter {} {start} {length}", hex(octets)),
             Line::Components { octets } => write!(out, "components {}", hex(octets)),
+            Line::Portion { octets, start, length } => write!(out, "portion {} {start} {length}", hex(octets)),
         }
     }
 }
@@ -116,13 +126,17 @@ fn request_text(request: &Request) -> (&'static str, String) {
         Request::Timeout { id } => ("timeout", format!(" {id}")),
         Request::RejectTimeout { id } => ("rejtimeout", format!(" {id}")),
         Request::Abort { portion } => ("abort", format!(" {}", hex(portion))),
-        Request::Begin => ("begin", String::new()),
-        Request::Continue => ("continue", String::new()),
-        Request::End => ("end", String::new()),
+        Request::Begin(given) => ("begin", given_text(given)),
+        Request::Continue(given) => ("continue", given_text(given)),
+        Request::End(given) => ("end", given_text(given)),
         Request::Prearranged => ("prearranged", String::new()),
-        Request::Unidirectional => ("uni", String::new()),
+        Request::Unidirectional(given) => ("uni", given_text(given)),
         Request::NoReaction => ("noreaction", String::new()),
     }
+}
+
+fn given_text(given: &Given) -> String {
+    format!(" {} {}", hex(&given.name), hex(&given.information))
 }
 
 /// The call of a line; none where it is not of the format.
@@ -131,6 +145,7 @@ pub fn parse(line: &str) -> Option<Line> {
     let parsed = match fields.text()? {
         "parameter" => Line::Parameter { octets: fields.octets()?, start: fields.number()?, length: fields.number()? },
         "components" => Line::Components { octets: fields.octets()? },
+        "portion" => Line::Portion { octets: fields.octets()?, start: fields.number()?, length: fields.number()? },
         verb => Line::Call(fields.call(verb)?),
     };
     fields.0.next().is_none().then_some(parsed)
@@ -190,6 +205,10 @@ impl<'a> Fields<'a> {
         })
     }
 
+    fn given(&mut self) -> Option<Given> {
+        Some(Given { name: self.octets()?, information: self.octets()? })
+    }
+
     fn request(&mut self, verb: &str) -> Option<Request> {
         Some(match verb {
             "invoke" => Request::Invoke {
@@ -211,11 +230,11 @@ impl<'a> Fields<'a> {
             "timeout" => Request::Timeout { id: self.number()? },
             "rejtimeout" => Request::RejectTimeout { id: self.number()? },
             "abort" => Request::Abort { portion: self.octets()? },
-            "begin" => Request::Begin,
-            "continue" => Request::Continue,
-            "end" => Request::End,
+            "begin" => Request::Begin(self.given()?),
+            "continue" => Request::Continue(self.given()?),
+            "end" => Request::End(self.given()?),
             "prearranged" => Request::Prearranged,
-            "uni" => Request::Unidirectional,
+            "uni" => Request::Unidirectional(self.given()?),
             "noreaction" => Request::NoReaction,
             _ => return None,
         })

@@ -58,20 +58,21 @@ fn destination(peer: TransactionId) -> Vec<u8> {
     write(0x49, peer.octets())
 }
 
-pub fn unidirectional(components: &[u8]) -> Vec<u8> {
-    write(0x61, &component_portion(components))
+pub fn unidirectional(portion: &[u8], components: &[u8]) -> Vec<u8> {
+    write(0x61, &[portion, &component_portion(components)].concat())
 }
 
-pub fn begin(local_id: u32, components: &[u8]) -> Vec<u8> {
-    write(0x62, &[originating(local_id), component_portion(components)].concat())
+pub fn begin(local_id: u32, portion: &[u8], components: &[u8]) -> Vec<u8> {
+    write(0x62, &[&originating(local_id), portion, &component_portion(components)].concat())
 }
 
-pub fn continue_(local_id: u32, peer: TransactionId, components: &[u8]) -> Vec<u8> {
-    write(0x65, &[originating(local_id), destination(peer), component_portion(components)].concat())
+pub fn continue_(local_id: u32, peer: TransactionId, portion: &[u8], components: &[u8]) -> Vec<u8> {
+    let ids = [originating(local_id), destination(peer)].concat();
+    write(0x65, &[&ids, portion, &component_portion(components)].concat())
 }
 
-pub fn end(peer: TransactionId, components: &[u8]) -> Vec<u8> {
-    write(0x64, &[destination(peer), component_portion(components)].concat())
+pub fn end(peer: TransactionId, portion: &[u8], components: &[u8]) -> Vec<u8> {
+    write(0x64, &[&destination(peer), portion, &component_portion(components)].concat())
 }
 
 /// The user's abort, with its dialogue portion or none.

@@ -13,7 +13,8 @@ use Rattle.paper.specs.Problems.{senderOfProblem, byUser, kindOf}
 use Rattle.paper.specs.Components.{components}
 use Rattle.paper.specs.Writing.{invokeOctets, resultOctets, errorOctets, rejectOctets}
 use Rattle.paper.specs.Invocations.{idle, sent, wait, idleSlot, invocationOf, stateOf, mayReject}
-use Rattle.paper.specs.Dialogues.{Place, Request, dialogueOpen, dialogueSent, dialogueReceived, dialogueActive, isCode, isParameter, isResult, isPortion, ofClass4}
+use Rattle.paper.specs.Portions.{Form, aarq, aare, audt, portionBy}
+use Rattle.paper.specs.Dialogues.{Place, Request, dialogueOpen, dialogueSent, dialogueReceived, dialogueActive, isCode, isParameter, isResult, isPortion, isName, isBlock, isInformation, abortPortion, ofClass4}
 use Rattle.paper.specs.Dialogues.Request.{Invoke, Result, Error, UserReject, Cancel, Begin, Continue, End, Prearranged, Abort, Unidirectional, Timeout, RejectTimeout, NoReaction}
 use Rattle.paper.specs.Calls.{Table, Call, placeAt, owns, mayBegin}
 use Rattle.paper.specs.Calls.Call.{Open, OnDialogue, Receive}
@@ -38,9 +39,24 @@ isIn x state = eqb (x .control .state) state
 abbrev pub idIn : Place → ℕ → ℕ → Bool
 idIn x id state = eqb (stateOf (x .control) id) state
 
--- waiting components, with one more, over 240 octets
+-- waiting components, with one more or with a portion, over 240 octets
 abbrev pub over : Place → List ℕ → Bool
 over x l = ltb mostWaiting (length (x .waiting) + length l)
+
+-- NAME AND INFORMATION given with a sending (02 a: "11 for them too"; "The 240 octets from here on count the portion too", as it is formed
+-- from what is given; "14, either given with continue or end in Active, or user information without a name"); cs: what else applies
+abbrev pub given : List ℕ → Bool
+given l = not (eqb (length l) 0)
+
+abbrev pub unnamed : List ℕ → List ℕ → Bool
+unnamed name info = given info && not (given name)
+
+abbrev pub inActive : Place → List ℕ → List ℕ → Bool
+inActive x name info = isIn x dialogueActive && (given name || given info)
+
+abbrev pub portionCases : Place → Form → List ℕ → List ℕ → List Case → List Case
+portionCases x f name info cs =
+    (11, not (isName name)) ∷ (11, not (isInformation info)) ∷ (12, over x (portionBy f name info)) ∷ (14, unnamed name info) ∷ cs
 
 -- A REQUEST, in its dialogue's place.
 -- 6: "dialogue state doesn't take the request; Unidirectional with no component or with one not of class 4"; and of the states: "only
@@ -51,7 +67,8 @@ over x l = ltb mostWaiting (length (x .waiting) + length l)
 -- 10: "8 invocations already open".
 -- 11: "octets given for operation, error, parameter or dialogue portion not one well-formed element of its kind, or reaching depth 17 in
 -- what it becomes part of; only one of a result's operation and parameter".
--- 12: "waiting components, or a given dialogue portion, over 240 octets"
+-- 12: "waiting components, or a given dialogue portion, over 240 octets".
+-- An abort takes "a whole 6B element or none" (01), or user information (02 a)
 abbrev pub casesOf : Place → Request → List Case
 casesOf x (Invoke id linked class op par) =
     (8, ltb class 1) ∷ (8, ltb 4 class)
@@ -65,14 +82,16 @@ casesOf x (UserReject id p) =
     (6, isIn x dialogueOpen) ∷ (8, not (eqb (senderOfProblem p) byUser))
     ∷ (9, not (mayReject (kindOf p) (invocationOf (x .control .invocations) id))) ∷ (12, over x (rejectOctets id p)) ∷ []
 casesOf x (Cancel id) = (9, not (idIn x id sent)) ∷ []
-casesOf x Begin = (6, not (isIn x dialogueOpen)) ∷ []
-casesOf x Continue = (6, not (isIn x dialogueReceived || isIn x dialogueActive)) ∷ []
-casesOf x End = (6, not (isIn x dialogueReceived || isIn x dialogueActive)) ∷ []
+casesOf x (Begin name info) = (6, not (isIn x dialogueOpen)) ∷ portionCases x aarq name info []
+casesOf x (Continue name info) =
+    (6, not (isIn x dialogueReceived || isIn x dialogueActive)) ∷ portionCases x aare name info ((14, inActive x name info) ∷ [])
+casesOf x (End name info) =
+    (6, not (isIn x dialogueReceived || isIn x dialogueActive)) ∷ portionCases x aare name info ((14, inActive x name info) ∷ [])
 casesOf x Prearranged = []
-casesOf x (Abort portion) = (11, not (isPortion portion)) ∷ (12, ltb mostWaiting (length portion)) ∷ []
-casesOf x Unidirectional =
+casesOf x (Abort given) = (11, not (isBlock given || isPortion given)) ∷ (12, ltb mostWaiting (length (abortPortion given))) ∷ []
+casesOf x (Unidirectional name info) =
     (6, not (isIn x dialogueOpen)) ∷ (6, eqb (length (x .waiting)) 0)
-    ∷ (6, not (every (ofClass4 (x .control)) (components (x .waiting) (length (x .waiting)) 0))) ∷ []
+    ∷ (6, not (every (ofClass4 (x .control)) (components (x .waiting) (length (x .waiting)) 0))) ∷ portionCases x audt name info []
 casesOf x (Timeout id) = (9, not (idIn x id sent)) ∷ []
 casesOf x (RejectTimeout id) = (9, not (idIn x id wait)) ∷ []
 casesOf x NoReaction = (6, not (isIn x dialogueSent)) ∷ []

@@ -19,6 +19,7 @@ use Rattle.paper.specs.Shares.{gives, others, free}
 use Rattle.paper.specs.Messages.{messageOf, isSound, uniTag, beginTag}
 use Rattle.paper.specs.Rows.{rowBegin}
 use Rattle.paper.specs.Writing.{causeAbortOctets}
+use Rattle.paper.specs.Portions.{Spoken}
 use Rattle.paper.specs.Invocations.{sent, wait, invocationOf, stateOf}
 use Rattle.paper.specs.Asked.{oursOf}
 use Rattle.paper.specs.Dialogues.{Request, dialogueOpen, dialogueSent, dialogueReceived, dialogueActive, needs, refusal}
@@ -100,7 +101,9 @@ module _ (t g l : List ℕ) (fresh : freshOutcome t g l .answer ≡ 0) (ms : Lis
 
   -- DEMAND 2, the messages: WHAT IS SENT IS WHAT THE CALLS PUT IN. The message that the next call writes, whichever it is, is read, by the
   -- definition by which a received one is read, as exactly what the ledger says: type, IDs, dialogue portion, cause, and the components passed and
-  -- not yet sent, in order, then the rejects shown and not yet sent; nothing where it says nothing, and nothing where the call is refused
+  -- not yet sent, in order, then the rejects shown and not yet sent; nothing where it says nothing, and nothing where the call is refused.
+  -- Of the portion it says the octets and what they are read as (02 a, "reading back includes their fields"): its kind, context name, user
+  -- information, result, diagnostic and abort source, as the call gave them (`spokenBy`), an abort's 6B as it is
   pub sent-is-said : (m : Made) → WellFormed (m .call)
       → contentOf (messageOut (gave (after start ms) m)) ≡ heard ledger (m .call) (gave (after start ms) m .answer)
   sent-is-said m w =
@@ -360,7 +363,7 @@ module _ (t g l : List ℕ) (fresh : freshOutcome t g l .answer ≡ 0) (ms : Lis
         )
 
     -- else it has no row, and an Abort with cause 4 goes to its originating ID
-    refused-aborts : gives placesInAll services guarantee limit dialogues s ≡ false → contentOf (messageOut reply) ≡ aborting asker [] 4
+    refused-aborts : gives placesInAll services guarantee limit dialogues s ≡ false → contentOf (messageOut reply) ≡ aborting asker [] Spoken.Silent 4
     refused-aborts e =
         let is : step (reached .to) (Receive s msg) ≡ shows [] (causeAbortOctets asker 4) (reached .to) = by-rule false e ∙ sym (no false _ _ refl refl) in
         let n : length asker ≡ messageOf msg .origin .length = asker-length in
@@ -378,14 +381,14 @@ module _ (t g l : List ℕ) (fresh : freshOutcome t g l .answer ≡ 0) (ms : Lis
 
     -- "one at or above it is refused exactly when": said on the Abort in the reply
     pub begin-refused-exactly : guarantee s ≤ dialogues s
-        → (contentOf (messageOut reply) ≡ aborting asker [] 4) ↔ ((dialogues s ≡ limit s) ⊎ (free placesInAll services dialogues ≡ others services guarantee dialogues s))
+        → (contentOf (messageOut reply) ≡ aborting asker [] Spoken.Silent 4) ↔ ((dialogues s ≡ limit s) ⊎ (free placesInAll services dialogues ≡ others services guarantee dialogues s))
     begin-refused-exactly q = (λ c. go c (gives placesInAll services guarantee limit dialogues s) refl, back)
       where
-        go : contentOf (messageOut reply) ≡ aborting asker [] 4 → (b : Bool) → gives placesInAll services guarantee limit dialogues s ≡ b
+        go : contentOf (messageOut reply) ≡ aborting asker [] Spoken.Silent 4 → (b : Bool) → gives placesInAll services guarantee limit dialogues s ≡ b
             → (dialogues s ≡ limit s) ⊎ (free placesInAll services dialogues ≡ others services guarantee dialogues s)
-        go c true z = let w : Wire.Nothing ≡ aborting asker [] 4 = sym (given-begins z .1) ∙ c in absurd (let y : _≡_ {A = ℕ} 0 1 = cc in omega arith)
+        go c true z = let w : Wire.Nothing ≡ aborting asker [] Spoken.Silent 4 = sym (given-begins z .1) ∙ c in absurd (let y : _≡_ {A = ℕ} 0 1 = cc in omega arith)
         go c false z = refused-why placesInAll services guarantee limit dialogues s q z
 
-        back : (dialogues s ≡ limit s) ⊎ (free placesInAll services dialogues ≡ others services guarantee dialogues s) → contentOf (messageOut reply) ≡ aborting asker [] 4
+        back : (dialogues s ≡ limit s) ⊎ (free placesInAll services dialogues ≡ others services guarantee dialogues s) → contentOf (messageOut reply) ≡ aborting asker [] Spoken.Silent 4
         back (inl e) = refused-aborts (refused-at-limit placesInAll services guarantee limit dialogues s q e)
         back (inr e) = refused-aborts (refused-full placesInAll services guarantee limit dialogues s q e)

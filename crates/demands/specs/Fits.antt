@@ -63,12 +63,12 @@ module _ (me : ℕ) (small : me < 4294967296) (x : Place) where
   does-fit (Error id err par) = none-fit
   does-fit (UserReject id p) = none-fit
   does-fit (Cancel id) = none-fit
-  does-fit Begin = none-fit
-  does-fit Continue = none-fit
-  does-fit End = none-fit
+  does-fit (Begin name info) = none-fit
+  does-fit (Continue name info) = none-fit
+  does-fit (End name info) = none-fit
   does-fit Prearranged = none-fit
-  does-fit (Abort portion) = none-fit
-  does-fit Unidirectional = none-fit
+  does-fit (Abort given) = none-fit
+  does-fit (Unidirectional name info) = none-fit
   does-fit (Timeout id) = whether-eq Fit (invocationOf (x .control .invocations) id .class) 4 [] (cancelRow me id ∷ []) none-fit (one-fit (cancelRow me id) (cancel-small me id small))
   does-fit (RejectTimeout id) = none-fit
   does-fit NoReaction =

@@ -7,14 +7,15 @@ use native.Mathlib.Omega.{arith}
 use lib.ListN.{length, getD}
 use lib.Dec.{eqb, ltb, leb}
 use borrow.Author.Tests.{ltb-true, ltb-false, leb-true, le-leb, lt-leb, eqb-true, eq-eqb, ne-eqb}
-use Rattle.laws.specs.If.{ifLt, ifEq, ifB, true-false, by-eq, all}
+use Rattle.laws.specs.If.{ifLt, ifEq, ifB, true-false, eq, ne, by-eq, all}
 use Rattle.laws.specs.Lists.{every}
 use Rattle.laws.specs.Sums.{sum}
 use Rattle.paper.specs.declared.Control.{Control}
 use Rattle.paper.specs.Sizes.{placesInAll, services, placeOf}
 use Rattle.paper.specs.Components.{components}
 use Rattle.paper.specs.Writing.{invokeOctets, resultOctets, errorOctets, rejectOctets}
-use Rattle.paper.specs.Dialogues.{Place, Request, dialogueReceived, dialogueActive, ofClass4, overfull, invokeRefusal, resultRefusal, errorRefusal, rejectRefusal, needs, needsOpen, needsPeer, needsSent, uniRefusal, abortRefusal, refusal, does, request, unlessRefused}
+use Rattle.paper.specs.Portions.{Form, aarq, aare, audt, portionBy}
+use Rattle.paper.specs.Dialogues.{Place, Request, dialogueOpen, dialogueReceived, dialogueActive, isPortion, isBlock, isAbort, ofClass4, overfull, first as firstOf, unplaced, portionRefusal, invokeRefusal, resultRefusal, errorRefusal, rejectRefusal, needs, needsOpen, needsPeer, needsSent, uniRefusal, abortPortion, abortRefusal, refusal, does, request, unlessRefused}
 use Rattle.paper.specs.Dialogues.Request.{Invoke, Result, Error, UserReject, Cancel, Begin, Continue, End, Prearranged, Abort, Unidirectional, Timeout, RejectTimeout, NoReaction}
 use Rattle.paper.specs.Shares.{limitFits, sharesFit}
 use Rattle.paper.specs.Calls.{Table, Call, Out, placeAt, stored, requested, opened, receivedIf, step}
@@ -25,7 +26,7 @@ use Rattle.paper.specs.Layout.{view}
 use Rattle.paper.specs.Outcome.{Lent, Outcome, standing, shown, outcome, freshAnswer, freshOutcome}
 use Rattle.paper.specs.Computing.{computed}
 use Rattle.kept.specs.Steps.{does-answers}
-use Rattle.demands.specs.Applies.{Case, among, isIn, over, casesOf, casesIn, cases, applies, some, freshCases, freshApplies, Lowest}
+use Rattle.demands.specs.Applies.{Case, among, isIn, over, given, unnamed, inActive, portionCases, casesOf, casesIn, cases, applies, some, freshCases, freshApplies, Lowest}
 use Rattle.demands.specs.Tails.{received-quiet}
 
 -- THE LOWEST of those that apply is the first, where the numbers rise
@@ -140,22 +141,107 @@ peer-is x = go (eqb (x .control .state) dialogueReceived) (eqb (x .control .stat
     go false true = refl
     go false false = refl
 
--- no octets are no component: read as some, they are at fault
+-- every waiting component is of class 4; no octets are no component: read as some, they are at fault
+abbrev ofClasses : Place → Bool
+ofClasses x = every (ofClass4 (x .control)) (components (x .waiting) (length (x .waiting)) 0)
+
 none-fails : (c : Control) (w : List ℕ) → length w ≡ 0 → every (ofClass4 c) (components w (length w) 0) ≡ false
 unfolding computed
 none-fails c [] e = refl
 none-fails c (x ∷ w) e = absurd (omega arith)
 
-uni-is : (c : Control) (w : List ℕ)
-    → ifB {A = ℕ} (every (ofClass4 c) (components w (length w) 0)) 0 6 ≡ ifB (eqb (length w) 0) 6 (ifB (not (every (ofClass4 c) (components w (length w) 0))) 6 0)
-unfolding ifB
-uni-is c w = go (eqb (length w) 0) refl (every (ofClass4 c) (components w (length w) 0)) refl
+uni-is : (x : Place) → uniRefusal x ≡ ifB (not (isIn x dialogueOpen)) 6 (ifB (eqb (length (x .waiting)) 0) 6 (ifB (not (ofClasses x)) 6 0))
+unfolding uniRefusal ifB
+uni-is x = not-eq itself _ _ _ _ (go (eqb (length (x .waiting)) 0) refl (ofClasses x) refl) refl
   where
-    go : (a : Bool) → eqb (length w) 0 ≡ a → (b : Bool) → every (ofClass4 c) (components w (length w) 0) ≡ b → cond {A = ℕ} b 0 6 ≡ cond a 6 (cond (not b) 6 0)
-    go true e true q = absurd (true-false (sym q ∙ none-fails c w (eqb-true (length w) 0 e)))
+    go : (a : Bool) → eqb (length (x .waiting)) 0 ≡ a → (b : Bool) → ofClasses x ≡ b → cond {A = ℕ} b 0 6 ≡ cond a 6 (cond (not b) 6 0)
+    go true e true q = absurd (true-false (sym q ∙ none-fails (x .control) (x .waiting) (eqb-true (length (x .waiting)) 0 e)))
     go true e false q = refl
     go false e true q = refl
     go false e false q = refl
+
+-- A SENDING: its state's refusal, else its portion's. What a test gives comes first
+test-first : (b : Bool) (n q m : ℕ) {r : ℕ} → 0 < n → (b ≡ false → firstOf q m ≡ r) → firstOf (ifB b n q) m ≡ ifB b n r
+unfolding firstOf ifB
+test-first true n q m some h = sym (ne _ _ _ _ (λ z. omega arith) refl)
+test-first false n q m some h = h refl
+
+none-first : (m : ℕ) → firstOf 0 m ≡ m
+unfolding firstOf
+none-first m = sym (eq _ _ _ _ refl refl)
+
+-- 14, in any state; in Open, which isn't Active
+unplaced-is : (x : Place) (name info : List ℕ) → unplaced (x .control .state) name info ≡ ifB (unnamed name info) 14 (ifB (inActive x name info) 14 0)
+unfolding unplaced ifEq ifB
+unplaced-is x name info = go (eqb (length name) 0) (eqb (length info) 0) (isIn x dialogueActive)
+  where
+    go : (a b c : Bool) → cond {A = ℕ} a (cond b 0 14) (cond c 14 0) ≡ cond (not b && not (not a)) 14 (cond (c && (not a || not b)) 14 0)
+    go true true true = refl
+    go true true false = refl
+    go true false c = refl
+    go false true true = refl
+    go false true false = refl
+    go false false true = refl
+    go false false false = refl
+
+open-unplaced : (x : Place) (name info : List ℕ) → not (isIn x dialogueOpen) ≡ false → unplaced (x .control .state) name info ≡ ifB (unnamed name info) 14 0
+unfolding ifB
+open-unplaced x name info e =
+    unplaced-is x name info
+    ∙ ap (λ (b : Bool). cond {A = ℕ} (unnamed name info) 14 (cond (b && (given name || given info)) 14 0)) (ne-eqb (x .control .state) dialogueActive (λ z. omega (arith, is-open)))
+  where
+    is-open : x .control .state ≡ 1
+    is-open = eqb-true (x .control .state) 1 (was-not (isIn x dialogueOpen) e)
+      where
+        was-not : (b : Bool) → not b ≡ false → b ≡ true
+        was-not true e = refl
+        was-not false e = absurd (true-false e)
+
+portion-is : (x : Place) (f : Form) (name info : List ℕ) (cs : List Case) → unplaced (x .control .state) name info ≡ first ((14, unnamed name info) ∷ cs)
+    → portionRefusal x f name info ≡ first (portionCases x f name info cs)
+unfolding portionRefusal
+portion-is x f name info cs e =
+    not-b itself _ _ _
+    (not-b itself _ _ _ (ap (λ (n : ℕ). firstOf n (unplaced (x .control .state) name info)) (over-is x (portionBy f name info)) ∙ test-first (over x (portionBy f name info)) 12 _ _ (omega arith) (λ _. none-first _ ∙ e)) refl) refl
+
+-- with begin and Unidirectional, with continue and end
+open-first : (x : Place) (f : Form) (name info : List ℕ) → not (isIn x dialogueOpen) ≡ false → portionRefusal x f name info ≡ first (portionCases x f name info [])
+open-first x f name info e = portion-is x f name info [] (open-unplaced x name info e)
+
+begin-first : (x : Place) (name info : List ℕ) → refusal x (Begin name info) ≡ first (casesOf x (Begin name info))
+unfolding refusal needsOpen
+begin-first x name info =
+    ap (λ (n : ℕ). firstOf n (portionRefusal x aarq name info)) (not-eq itself (x .control .state) dialogueOpen 0 6 refl refl)
+    ∙ test-first (not (isIn x dialogueOpen)) 6 _ _ (omega arith) (λ e. none-first _ ∙ open-first x aarq name info e)
+
+uni-first : (x : Place) (name info : List ℕ) → refusal x (Unidirectional name info) ≡ first (casesOf x (Unidirectional name info))
+unfolding refusal
+uni-first x name info =
+    ap (λ (n : ℕ). firstOf n (portionRefusal x audt name info)) (uni-is x)
+    ∙ test-first (not (isIn x dialogueOpen)) 6 _ _ (omega arith) (λ e. test-first (eqb (length (x .waiting)) 0) 6 _ _ (omega arith)
+    (λ _. test-first (not (ofClasses x)) 6 _ _ (omega arith) (λ _. none-first _ ∙ open-first x audt name info e)))
+
+peer-first : (x : Place) (name info : List ℕ) → firstOf (needsPeer x) (portionRefusal x aare name info) ≡ first (casesOf x (Continue name info))
+peer-first x name info =
+    ap (λ (n : ℕ). firstOf n (portionRefusal x aare name info)) (peer-is x)
+    ∙ test-first (not (isIn x dialogueReceived || isIn x dialogueActive)) 6 _ _ (omega arith)
+    (λ _. none-first _ ∙ portion-is x aare name info ((14, inActive x name info) ∷ []) (unplaced-is x name info))
+
+-- AN ABORT'S OCTETS: a BE element is neither a 6B nor none
+block-alone : (l : List ℕ) → getD l 0 0 ≡ 0xBE → isPortion l ≡ false
+unfolding isPortion
+block-alone [] e = absurd (omega arith)
+block-alone (x ∷ l) e = sym (ne _ _ _ _ (λ z. omega arith) (ne _ _ _ _ (λ z. omega arith) refl))
+
+abort-is : (l : List ℕ) → isAbort l ≡ isBlock l || isPortion l
+unfolding isAbort isBlock
+abort-is l =
+    by-eq {r = isAbort l} _ _ _ _ refl (λ a z. z ∙ sym (ap (λ (b : Bool). isBlock l || b) (block-alone l a) ∙ or-false (isBlock l)))
+    (λ a z. z ∙ ap (λ (b : Bool). b || isPortion l) (ne _ _ _ _ a refl))
+  where
+    or-false : (b : Bool) → b || false ≡ b
+    or-false true = refl
+    or-false false = refl
 
 -- EACH REQUEST: its refusal is the first of its cases, and they rise from 5 on
 refusal-first : (x : Place) (r : Request) → (refusal x r ≡ first (casesOf x r)) × (rising 5 (casesOf x r) ≡ true)
@@ -174,12 +260,15 @@ refusal-first x (Error id err par) =
 refusal-first x (UserReject id p) =
     (is-eq itself _ _ _ _ refl (not-eq itself _ _ _ _ (not-b itself _ _ _ (over-is x (rejectOctets id p)) refl) refl), refl)
 refusal-first x (Cancel id) = (not-eq itself _ _ _ _ refl refl, refl)
-refusal-first x Begin = (not-eq itself _ _ _ _ refl refl, refl)
-refusal-first x Continue = (peer-is x, refl)
-refusal-first x End = (peer-is x, refl)
+refusal-first x (Begin name info) = (begin-first x name info, refl)
+refusal-first x (Continue name info) = (peer-first x name info, refl)
+refusal-first x (End name info) = (peer-first x name info, refl)
 refusal-first x Prearranged = (refl, refl)
-refusal-first x (Abort portion) = (not-b itself _ _ _ (is-lt itself _ _ _ _ refl refl) refl, refl)
-refusal-first x Unidirectional = (not-eq itself _ _ _ _ (uni-is (x .control) (x .waiting)) refl, refl)
+refusal-first x (Abort given) = (
+  not-b itself _ _ _ (is-lt itself _ _ _ _ refl refl) refl ∙ ap (λ (b : Bool). ifB (not b) 11 (ifB (ltb 240 (length (abortPortion given))) 12 0)) (abort-is given),
+  refl,
+)
+refusal-first x (Unidirectional name info) = (uni-first x name info, refl)
 refusal-first x (Timeout id) = (not-eq itself _ _ _ _ refl refl, refl)
 refusal-first x (RejectTimeout id) = (not-eq itself _ _ _ _ refl refl, refl)
 refusal-first x NoReaction = (not-eq itself _ _ _ _ refl refl, refl)

@@ -6,6 +6,7 @@ pub mod Stored
 pub mod Carried
 pub mod Listed
 pub mod Waiting
+pub mod Portions
 pub mod Requests
 pub mod Counted
 pub mod Shared

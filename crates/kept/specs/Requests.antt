@@ -19,6 +19,7 @@ use Rattle.facts.specs.Slots.{empty-fine}
 use Rattle.kept.specs.Controls.{passed-fine, to-state-fine, to-idle-fine, transmitted-fine}
 use Rattle.kept.specs.Acts.{Stays, unchanged}
 use Rattle.kept.specs.Waiting.{kept-none, waiting-append, written-kept}
+use Rattle.kept.specs.Portions.{first-none, room-told}
 
 -- A DIALOGUE THAT GOES ON, of the same service
 pub record GoesOn (x y : Place) : Type 0 where
@@ -123,10 +124,6 @@ module _ (x : Place) where
       let k = was-yes _ _ _ (s .1) (λ z. omega arith) in
       (k .0, ((h, λ z. omega (arith, s .0)), sym (k .1))))
 
-  pub fits : (l : List ℕ) → overfull x l ≡ 0 → length (x .waiting) + length l ≤ 240
-  unfolding overfull
-  fits l e = was-ge _ _ _ _ (sym e) (λ z. omega arith) .0
-
 module _ (x : Place) (f : FinePlace x) (used : x .control .state ≡ 0 → ⊥) where
   -- ITS CONTROL RECORD CHANGED
   pub control-goes-on : (c : Control) → FineControl c → (c .state ≡ 0 → ⊥) → c .service ≡ x .control .service → GoesOn x (withControl x c)
@@ -140,7 +137,7 @@ module _ (x : Place) (f : FinePlace x) (used : x .control .state ≡ 0 → ⊥) 
   pass-goes-on : (c : Control) → Stays (x .control) c → (w : Written) → Allowed w → overfull x (octetsOf w) ≡ 0
       → GoesOn x (record { control = c; waiting = x .waiting ++ octetsOf w })
   pass-goes-on c s w a e =
-      let n = fits x (octetsOf w) e in
+      let n = room-told x (octetsOf w) e in
       record {
         fine = record {
           control = s .fine;
@@ -200,30 +197,30 @@ module _ (x : Place) (f : FinePlace x) (used : x .control .state ≡ 0 → ⊥) 
       let (may, parts) = reject-told x id p h e in
       pass-goes-on (rejectedBy (x .control) id p) (rejected-by-stays id p may) (Written.Reject id p) (parts .0) (parts .1)
 
-  -- A SENDING, to a state with a peer as before
-  sent-goes-on : (state : ℕ) → 0 < state → state < 5 → hasPeer state ≡ hasPeer (x .control .state) → GoesOn x (afterSending x state)
+  -- A SENDING, with or without the rejects, to a state with a peer as before
+  sent-goes-on : (fits : Bool) (state : ℕ) → 0 < state → state < 5 → hasPeer state ≡ hasPeer (x .control .state) → GoesOn x (afterSending x fits state)
   unfolding afterSending allTransmitted
-  sent-goes-on state a b e =
+  sent-goes-on fits state a b e =
       let c : Control = allTransmitted (withState (x .control) state) in
       let g : FineControl c = transmitted-fine (withState (x .control) state) (with-state-fine (x .control) (f .control) state b e) in
-      by-b {r = afterSending x state .control} _ _ _ refl
+      by-b {r = afterSending x fits state .control} _ _ _ refl
       (λ h z. left (withoutRejects c) z (without-rejects-fine c g) a refl) (λ h z. left c z g a refl)
     where
-      left : (c : Control) → afterSending x state .control ≡ c → FineControl c → 0 < c .state → c .service ≡ x .control .service → GoesOn x (afterSending x state)
+      left : (c : Control) → afterSending x fits state .control ≡ c → FineControl c → 0 < c .state → c .service ≡ x .control .service → GoesOn x (afterSending x fits state)
       left c z g a s = subst (λ (d : Control). GoesOn x (record { control = d; waiting = [] })) (sym z)
           (record { fine = place-fine c g (λ e. omega arith); state = λ e. omega arith; service = s })
 
-  begin-goes-on : needsOpen x ≡ 0 → GoesOn x (afterSending x 2)
+  begin-goes-on : (fits : Bool) → needsOpen x ≡ 0 → GoesOn x (afterSending x fits 2)
   unfolding needsOpen
-  begin-goes-on e =
+  begin-goes-on fits e =
       let a = was-eq _ _ _ _ (sym e) (λ z. omega arith) in
-      sent-goes-on 2 (omega arith) (omega arith) (peers .1 ∙ sym (ap hasPeer (a .0) ∙ peers .0))
+      sent-goes-on fits 2 (omega arith) (omega arith) (peers .1 ∙ sym (ap hasPeer (a .0) ∙ peers .0))
 
-  continue-goes-on : needsPeer x ≡ 0 → GoesOn x (afterSending x 4)
+  continue-goes-on : (fits : Bool) → needsPeer x ≡ 0 → GoesOn x (afterSending x fits 4)
   unfolding needsPeer
-  continue-goes-on e =
-      by-eq _ _ _ _ (sym e) (λ a z. sent-goes-on 4 (omega arith) (omega arith) (peers .3 ∙ sym (ap hasPeer a ∙ peers .2)))
-      (λ a z. let b = was-eq _ _ _ _ z (λ z. omega arith) in sent-goes-on 4 (omega arith) (omega arith) (sym (ap hasPeer (b .0))))
+  continue-goes-on fits e =
+      by-eq _ _ _ _ (sym e) (λ a z. sent-goes-on fits 4 (omega arith) (omega arith) (peers .3 ∙ sym (ap hasPeer a ∙ peers .2)))
+      (λ a z. let b = was-eq _ _ _ _ z (λ z. omega arith) in sent-goes-on fits 4 (omega arith) (omega arith) (sym (ap hasPeer (b .0))))
 
 -- A REQUEST AS A CALLER CAN MAKE IT: IDs are octets, a linked one 256 for none, a result's tag is A2 or A7
 abbrev pub Formed : Request → Type 0
@@ -232,12 +229,12 @@ Formed (Result tag id op par) = ResultTag tag × (id < 256)
 Formed (Error id err par) = id < 256
 Formed (UserReject id p) = id < 256
 Formed (Cancel id) = Unit
-Formed Begin = Unit
-Formed Continue = Unit
-Formed End = Unit
+Formed (Begin name info) = Unit
+Formed (Continue name info) = Unit
+Formed (End name info) = Unit
 Formed Prearranged = Unit
-Formed (Abort portion) = Unit
-Formed Unidirectional = Unit
+Formed (Abort given) = Unit
+Formed (Unidirectional name info) = Unit
 Formed (Timeout id) = Unit
 Formed (RejectTimeout id) = Unit
 Formed NoReaction = Unit
@@ -263,12 +260,12 @@ frees (Result tag id op par) = false
 frees (Error id err par) = false
 frees (UserReject id p) = false
 frees (Cancel id) = false
-frees Begin = false
-frees Continue = false
-frees End = true
+frees (Begin name info) = false
+frees (Continue name info) = false
+frees (End name info) = true
 frees Prearranged = true
-frees (Abort portion) = true
-frees Unidirectional = true
+frees (Abort given) = true
+frees (Unidirectional name info) = true
 frees (Timeout id) = false
 frees (RejectTimeout id) = false
 frees NoReaction = true
@@ -285,12 +282,12 @@ does-kept x f u me (Result tag id op par) w e = result-goes-on x f u tag id op p
 does-kept x f u me (Error id err par) w e = error-goes-on x f u id err par w e
 does-kept x f u me (UserReject id p) w e = reject-goes-on x f u id p (omega arith) e
 does-kept x f u me (Cancel id) w e = idle-goes-on x f u id
-does-kept x f u me Begin w e = begin-goes-on x f u e
-does-kept x f u me Continue w e = continue-goes-on x f u e
-does-kept x f u me End w e = refl
+does-kept x f u me (Begin name info) w e = begin-goes-on x f u _ (first-none _ _ e .0)
+does-kept x f u me (Continue name info) w e = continue-goes-on x f u _ (first-none _ _ e .0)
+does-kept x f u me (End name info) w e = refl
 does-kept x f u me Prearranged w e = refl
-does-kept x f u me (Abort portion) w e = refl
-does-kept x f u me Unidirectional w e = refl
+does-kept x f u me (Abort given) w e = refl
+does-kept x f u me (Unidirectional name info) w e = refl
 does-kept x f u me (Timeout id) w e = idle-goes-on x f u id
 does-kept x f u me (RejectTimeout id) w e = idle-goes-on x f u id
 does-kept x f u me NoReaction w e = refl

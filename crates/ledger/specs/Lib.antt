@@ -4,6 +4,7 @@ pub mod Entries
 pub mod Agrees
 pub mod Acting
 pub mod Sending
+pub mod Portions
 pub mod Read
 pub mod Requests
 pub mod Received

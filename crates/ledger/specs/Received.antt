@@ -16,6 +16,7 @@ use Rattle.paper.specs.Sizes.{placeOf, localID}
 use Rattle.paper.specs.Problems.{noProblem}
 use Rattle.paper.specs.Messages.{messageOf, isSound, noRun, uniTag, beginTag, continueTag}
 use Rattle.paper.specs.Writing.{Written, joined, causeAbortOctets}
+use Rattle.paper.specs.Portions.{Spoken}
 use Rattle.paper.specs.Rows.{dialogueRow, componentRows, allActed, rowUni, rowBegin, rowContinue, rowEnd, rowUserAbort, rowAbort}
 use Rattle.paper.specs.Shares.{gives}
 use Rattle.paper.specs.Dialogues.{Place, freed, peerOf, withControl}
@@ -174,7 +175,7 @@ module _ (T : Table) (f : Fine T) (L : Ledger) (g : Agrees T L) (service : ℕ) 
           let k : length origin ≤ 4 = omega (arith, long, in-s .origin .short) in
           record {
             agrees = ag;
-            says = cause-abort-content origin n k cause small ∙ lt _ _ _ _ (omega (arith, e)) (ne _ _ _ _ a (ap (aborting origin []) e));
+            says = cause-abort-content origin n k cause small ∙ lt _ _ _ _ (omega (arith, e)) (ne _ _ _ _ a (ap (aborting origin [] Spoken.Silent) e));
             fits = cause-abort-fits origin n k cause;
           }
 

@@ -1,9 +1,9 @@
 -- A REQUEST OR TIMER EVENT that isn't refused: the ledger goes with the table, and the message holds what the ledger says. Assumes nothing.
 use mathlib.Core.Path.{_≡_, refl, sym, ap, subst, _∙_}
-use mathlib.Core.Bool.{true, false}
+use mathlib.Core.Bool.{Bool, true, false}
 use mathlib.Core.Option.{Option, some}
 use mathlib.Core.List.{List, [], _∷_, _++_}
-use Prim.Native.Nat.{ℕ, _≤_, _<_}
+use Prim.Native.Nat.{ℕ, _+_, _≤_, _<_}
 use native.Mathlib.Omega.{arith}
 use lib.ListN.{length, length-append}
 use lib.Seq.{length-take-le}
@@ -18,20 +18,23 @@ use Rattle.paper.specs.Problems.{kindOf, noProblem}
 use Rattle.paper.specs.Components.{tagAt, componentAt, items, components}
 use Rattle.paper.specs.Writing.{Written, octetsOf, joined, beginOctets, continueOctets, endOctets, uniOctets}
 use Rattle.paper.specs.Invocations.{noInvocation, isIdle, idleSlot, inState, toIdle, passed}
-use Rattle.paper.specs.Messages.{beginTag, continueTag, endTag}
-use Rattle.paper.specs.Dialogues.{Place, Request, withControl, freed, invokeRefusal, rejectRefusal, rejectedBy, peerOf, waitingRejects, sentComponents, afterSending, needsPeer, ofClass4, uniRefusal, abortRefusal, abortMessage, refusal, does}
+use Rattle.paper.specs.Messages.{beginTag, continueTag, endTag, uniTag}
+use Rattle.paper.specs.Portions.{Form, aarq, aare, audt, portionBy, Spoken, spokenIn}
+use Rattle.paper.specs.Dialogues.{Place, Request, withControl, freed, invokeRefusal, rejectRefusal, rejectedBy, peerOf, waitingRejects, sentComponents, afterSending, fitsWith, needsPeer, ofClass4, portionRefusal, uniRefusal, abortPortion, abortRefusal, abortMessage, refusal, does}
 use Rattle.paper.specs.Dialogues.Request.{Invoke, Result, Error, UserReject, Cancel, Begin, Continue, End, Prearranged, Abort, Unidirectional, Timeout, RejectTimeout, NoReaction}
 use Rattle.paper.specs.Calls.{Table, placeAt, withPlace}
 use Rattle.paper.specs.Rules.{hasPeer}
 use Rattle.paper.specs.Outcome.{spacesOf}
 use Rattle.paper.specs.Contents.{Wire, contentOf}
 use Rattle.paper.specs.Asked.{becomes, newOne, userRejects}
-use Rattle.paper.specs.Ledger.{Entry, Ledger, find, goes, passes, idles, unmoved, sends, goesOn, ends, noted, sending, aborting, saidBy, saidOf}
+use Rattle.paper.specs.Ledger.{Entry, Ledger, find, fit, goes, passes, idles, unmoved, sends, goesOn, ends, noted, sending, aborting, abortSpoken, saidBy, saidOf}
 use Rattle.readback.specs.Written.{Allowed, AllAllowed}
 use Rattle.readback.specs.Contents.{nothing-content, begin-fits, begin-content, continue-fits, continue-content, end-fits, end-content, uni-fits, uni-content, user-abort-fits, user-abort-content}
+use Rattle.readback.specs.Spoken.{abort-formed, abort-spoken}
 use Rattle.facts.specs.Fine.{FinePlace, Fine}
 use Rattle.kept.specs.Leaves.{whether-eq}
 use Rattle.kept.specs.Controls.{passed-fine, to-idle-fine}
+use Rattle.kept.specs.Portions.{first-none}
 use Rattle.kept.specs.Requests.{Formed, requestOf, passed-taken, invoke-told, reject-told, rejected-by-stays}
 use Rattle.ledger.specs.Lookups.{idle-lookup, passed-lookup, rejected-lookup}
 use Rattle.ledger.specs.Ours.{Ours, ours-turned}
@@ -39,6 +42,7 @@ use Rattle.ledger.specs.Entries.{find-id}
 use Rattle.ledger.specs.Agrees.{Is, Holds, Agrees, agrees-altered, agrees-ended}
 use Rattle.ledger.specs.Acting.{Alike, alike-self, alike-waits, idle-alike, state-alike}
 use Rattle.ledger.specs.Sending.{joined-more, allowed-append, goes-is, sent-is, sent-turn, goes-allowed, goes-few}
+use Rattle.ledger.specs.Portions.{Given, aarq-given, aare-given, audt-given}
 
 passed-alike : (c : Control) (id class : ℕ) → Alike c (passed c id class)
 unfolding passed
@@ -80,13 +84,13 @@ unfolding components items every ofClass4 componentAt frameAt headAt tagEnd ifLt
 none-class4 c [] h e = true-false (sym e)
 none-class4 c (y ∷ w) h e = omega arith
 
-uni-some : (x : Place) → uniRefusal x ≡ 0 → length (sentComponents x) ≡ 0 → ⊥
+uni-some : (x : Place) (fits : Bool) → uniRefusal x ≡ 0 → length (sentComponents x fits) ≡ 0 → ⊥
 unfolding uniRefusal sentComponents
-uni-some x e z =
+uni-some x fits e z =
     let a = was-eq _ _ _ _ (sym e) (λ z. omega arith) in
     let b = was-yes _ _ _ (a .1) (λ z. omega arith) in
     none-class4 (x .control) (x .waiting)
-    (by-b {r = sentComponents x} _ _ _ refl
+    (by-b {r = sentComponents x fits} _ _ _ refl
     (λ _ q. omega (arith, ap length q, length-append (x .waiting) (waitingRejects (x .control)))) (λ _ q. omega (arith, ap length q)))
     (b .0)
 
@@ -150,38 +154,70 @@ module _ (T : Table) (f : Fine T) (L : Ledger) (g : Agrees T L) (d : ℕ) (e : E
       })
 
   -- a sending
-  sends-on : (state : ℕ) → 0 < state → Agrees (withPlace T p (afterSending x state)) (goesOn L d (sends state))
-  sends-on state h =
-      let w = sent-is e x is fine state in
-      agrees-altered T f L g d e _ (sends state) there holds (λ _. refl) (λ _. refl) (sent-turn e x is state ∙ holds .turn) (λ z. omega (arith, w .state)) w
+  sends-on : (state : ℕ) (portion : List ℕ) → 0 < state → Agrees (withPlace T p (afterSending x (fitsWith x portion) state)) (goesOn L d (sends state portion))
+  sends-on state portion h =
+      let w = sent-is e x is fine state portion in
+      agrees-altered T f L g d e _ (sends state portion) there holds (λ _. refl) (λ _. refl) (sent-turn e x is (fitsWith x portion) state ∙ holds .turn) (λ z. omega (arith, w .state)) w
 
   freed-on : Agrees (withPlace T p (freed x)) (ends L d)
   freed-on = agrees-ended T f L g d e there holds
 
-  few : length (sentComponents x) ≤ 240
-  few = omega (arith, ap length (goes-is e x is), goes-few e x is fine)
+  -- its components, and the entry's
+  abbrev cs : List ℕ → List ℕ
+  cs portion = sentComponents x (fitsWith x portion)
 
-  abbrev cs : List ℕ
-  cs = sentComponents x
+  abbrev ws : List ℕ → List Written
+  ws portion = goes e (fit e (length portion))
 
-  -- it is read as what the entry says
-  read-as : (write : List ℕ → List ℕ) (w : Wire) → contentOf (write (joined (goes e))) ≡ w → contentOf (write cs) ≡ w
-  read-as write w h = ap (λ (l : List ℕ). contentOf (write l)) (goes-is e x is) ∙ h
+  allowed : (portion : List ℕ) → AllAllowed (ws portion)
+  allowed portion = goes-allowed e x is fine (fit e (length portion))
 
-  allowed : AllAllowed (goes e)
-  allowed = goes-allowed e x is fine
+  module _ {k : Form} {name info : List ℕ} (t : Given x k name info) where
+    abbrev portion : List ℕ
+    portion = portionBy k name info
 
-  small : length (joined (goes e)) ≤ 240
-  small = goes-few e x is fine
+    small : length portion + length (joined (ws portion)) ≤ 240
+    small = goes-few e x is (length portion) (t .room)
 
-  begin-done : D Begin (afterSending x 2) (beginOctets (idOctets d) cs)
-  begin-done = record {
-    agrees = sends-on 2 (omega arith);
-    says =
-        read-as (beginOctets (idOctets d)) _ (begin-content (idOctets d) (omega arith) (omega arith) (goes e) allowed small)
-        ∙ ap (λ (i : ℕ). sending beginTag (idOctets i) [] e) (sym own-id) ∙ said-is Begin;
-    fits = begin-fits (idOctets d) (omega arith) (omega arith) cs few;
-  }
+    few : length portion + length (cs portion) ≤ 240
+    few = omega (arith, ap length (goes-is e x is (length portion)), small)
+
+    -- it is read as what the entry and the call say
+    read-as : (write : List ℕ → List ℕ) (tag : ℕ) (own peer : List ℕ)
+        → contentOf (write (joined (ws portion)))
+        ≡ Wire.Holds (record { tag = tag; origin = own; destination = peer; portion = portion; spoken = spokenIn portion; cause = noProblem; components = ws portion })
+        → contentOf (write (cs portion)) ≡ sending tag own peer k name info e
+    read-as write tag own peer h =
+        ap (λ (l : List ℕ). contentOf (write l)) (goes-is e x is (length portion)) ∙ h
+        ∙ ap (λ (v : Spoken). Wire.Holds (record { tag = tag; origin = own; destination = peer; portion = portion; spoken = v; cause = noProblem; components = ws portion })) (t .says)
+
+  module _ (name info : List ℕ) where
+    begin-done : portionRefusal x aarq name info ≡ 0
+        → D (Begin name info) (afterSending x (fitsWith x (portionBy aarq name info)) 2) (beginOctets (idOctets d) (portionBy aarq name info) (cs (portionBy aarq name info)))
+    begin-done n =
+        let t = aarq-given x name info n in
+        let portion : List ℕ = portionBy aarq name info in
+        record {
+          agrees = sends-on 2 portion (omega arith);
+          says =
+              read-as t (beginOctets (idOctets d) portion) beginTag (idOctets d) []
+              (begin-content (idOctets d) (omega arith) (omega arith) portion (t .formed) (ws portion) (allowed portion) (small t))
+              ∙ ap (λ (i : ℕ). sending beginTag (idOctets i) [] aarq name info e) (sym own-id) ∙ said-is (Begin name info);
+          fits = begin-fits (idOctets d) (omega arith) (omega arith) portion (cs portion) (few t);
+        }
+
+    uni-done : uniRefusal x ≡ 0 → portionRefusal x audt name info ≡ 0 → D (Unidirectional name info) (freed x) (uniOctets (portionBy audt name info) (cs (portionBy audt name info)))
+    uni-done u n =
+        let t = audt-given x name info n in
+        let portion : List ℕ = portionBy audt name info in
+        record {
+          agrees = freed-on;
+          says =
+              read-as t (uniOctets portion) uniTag [] []
+              (uni-content portion (t .formed) (ws portion) (allowed portion) (λ z. uni-some x (fitsWith x portion) u (ap length (goes-is e x is (length portion)) ∙ z)) (small t))
+              ∙ said-is (Unidirectional name info);
+          fits = uni-fits portion (cs portion) (few t);
+        }
 
   module _ (n : needsPeer x ≡ 0) where
     abbrev peer : List ℕ
@@ -190,53 +226,55 @@ module _ (T : Table) (f : Fine T) (L : Ledger) (g : Agrees T L) (d : ℕ) (e : E
     abbrev told : (1 ≤ length peer) × (length peer ≤ 4)
     told = needs-peer x fine n
 
-    continue-done : D Continue (afterSending x 4) (continueOctets (idOctets d) peer cs)
-    continue-done = record {
-      agrees = sends-on 4 (omega arith);
-      says =
-          read-as (continueOctets (idOctets d) peer) _
-          (continue-content (idOctets d) (omega arith) (omega arith) peer (told .0) (told .1) (goes e) allowed small)
-          ∙ ap (λ (i : ℕ). sending continueTag (idOctets i) peer e) (sym own-id)
-          ∙ ap (λ (l : List ℕ). sending continueTag (idOctets (e .id)) l e) (is .peer) ∙ said-is Continue;
-      fits = continue-fits (idOctets d) (omega arith) (omega arith) peer (told .0) (told .1) cs few;
-    }
+    module _ (name info : List ℕ) (r : portionRefusal x aare name info ≡ 0) where
+      abbrev response : List ℕ
+      response = portionBy aare name info
 
-    end-done : D End (freed x) (endOctets peer cs)
-    end-done = record {
-      agrees = freed-on;
-      says =
-          read-as (endOctets peer) _ (end-content peer (told .0) (told .1) (goes e) allowed small)
-          ∙ ap (λ (l : List ℕ). sending endTag [] l e) (is .peer) ∙ said-is End;
-      fits = end-fits peer (told .0) (told .1) cs few;
-    }
+      continue-done : D (Continue name info) (afterSending x (fitsWith x response) 4) (continueOctets (idOctets d) peer response (cs response))
+      continue-done =
+          let t = aare-given x name info r in
+          record {
+            agrees = sends-on 4 response (omega arith);
+            says =
+                read-as t (continueOctets (idOctets d) peer response) continueTag (idOctets d) peer
+                (continue-content (idOctets d) (omega arith) (omega arith) peer (told .0) (told .1) response (t .formed) (ws response) (allowed response) (small t))
+                ∙ ap (λ (i : ℕ). sending continueTag (idOctets i) peer aare name info e) (sym own-id)
+                ∙ ap (λ (l : List ℕ). sending continueTag (idOctets (e .id)) l aare name info e) (is .peer) ∙ said-is (Continue name info);
+            fits = continue-fits (idOctets d) (omega arith) (omega arith) peer (told .0) (told .1) response (cs response) (few t);
+          }
 
-  uni-done : uniRefusal x ≡ 0 → D Unidirectional (freed x) (uniOctets cs)
-  uni-done n = record {
-    agrees = freed-on;
-    says =
-        read-as uniOctets _ (uni-content (goes e) allowed (λ z. uni-some x n (ap length (goes-is e x is) ∙ z)) small)
-        ∙ said-is Unidirectional;
-    fits = uni-fits cs few;
-  }
+      end-done : D (End name info) (freed x) (endOctets peer response (cs response))
+      end-done =
+          let t = aare-given x name info r in
+          record {
+            agrees = freed-on;
+            says =
+                read-as t (endOctets peer response) endTag [] peer
+                (end-content peer (told .0) (told .1) response (t .formed) (ws response) (allowed response) (small t))
+                ∙ ap (λ (l : List ℕ). sending endTag [] l aare name info e) (is .peer) ∙ said-is (End name info);
+            fits = end-fits peer (told .0) (told .1) response (cs response) (few t);
+          }
 
-  -- "a whole 6B element or none"; "writes a message only in Received and Active"
-  abort-done : (portion : List ℕ) → abortRefusal portion ≡ 0 → D (Abort portion) (freed x) (abortMessage x portion)
+  -- "a whole 6B element or none", or user information in an ABRT; "writes a message only in Received and Active"
+  abort-done : (given : List ℕ) → abortRefusal given ≡ 0 → D (Abort given) (freed x) (abortMessage x given)
   unfolding abortRefusal abortMessage
-  abort-done portion r =
+  abort-done given r =
       let a = was-yes _ _ _ (sym r) (λ z. omega arith) in
       let b = was-ge _ _ _ _ (a .1) (λ z. omega arith) in
-      by-eq {r = abortMessage x portion} _ _ _ _ refl
-      (λ n z. subst (D (Abort portion) (freed x)) (sym z) (record {
+      let portion : List ℕ = abortPortion given in
+      by-eq {r = abortMessage x given} _ _ _ _ refl
+      (λ n z. subst (D (Abort given) (freed x)) (sym z) (record {
         agrees = freed-on;
         says =
-            user-abort-content (peer n) (told n .0) (told n .1) portion (a .0) (b .0)
-            ∙ ap (λ (l : List ℕ). aborting l portion noProblem) (is .peer)
-            ∙ yes _ _ _ (ap hasPeer (sym (is .state)) ∙ peer-told x .0 n) refl ∙ said-is (Abort portion);
+            user-abort-content (peer n) (told n .0) (told n .1) portion (abort-formed given (a .0) (b .0)) (b .0)
+            ∙ ap (λ (v : Spoken). aborting (peer n) portion v noProblem) (abort-spoken given (a .0) (b .0))
+            ∙ ap (λ (l : List ℕ). aborting l portion (abortSpoken given) noProblem) (is .peer)
+            ∙ yes _ _ _ (ap hasPeer (sym (is .state)) ∙ peer-told x .0 n) refl ∙ said-is (Abort given);
         fits = user-abort-fits (peer n) (told n .0) (told n .1) portion (b .0);
       }))
-      (λ n z. subst (D (Abort portion) (freed x)) (sym z) (record {
+      (λ n z. subst (D (Abort given) (freed x)) (sym z) (record {
         agrees = freed-on;
-        says = nothing-content ∙ no _ _ _ (ap hasPeer (sym (is .state)) ∙ peer-told x .1 n) refl ∙ said-is (Abort portion);
+        says = nothing-content ∙ no _ _ _ (ap hasPeer (sym (is .state)) ∙ peer-told x .1 n) refl ∙ said-is (Abort given);
         fits = omega arith;
       }))
 
@@ -281,12 +319,12 @@ module _ (T : Table) (f : Fine T) (L : Ledger) (g : Agrees T L) (d : ℕ) (e : E
       quiet (UserReject id q) _ refl
       (passes-on v (λ l. userRejects l id q) (rejectedBy (x .control) id q) (rejected-alike (x .control) id q) (passing 0 v w n) (rejects-ours id q w n))
   does-done (Cancel id) w n = quiet (Cancel id) _ refl (goes-idle id)
-  does-done Begin w n = begin-done
-  does-done Continue w n = continue-done n
-  does-done End w n = end-done n
+  does-done (Begin name info) w n = begin-done name info (first-none _ _ n .1)
+  does-done (Continue name info) w n = let r = first-none _ _ n in continue-done (r .0) name info (r .1)
+  does-done (End name info) w n = let r = first-none _ _ n in end-done (r .0) name info (r .1)
   does-done Prearranged w n = quiet Prearranged _ refl freed-on
-  does-done (Abort portion) w n = abort-done portion n
-  does-done Unidirectional w n = uni-done n
+  does-done (Abort given) w n = abort-done given n
+  does-done (Unidirectional name info) w n = let r = first-none _ _ n in uni-done name info (r .0) (r .1)
   does-done (Timeout id) w n = quiet (Timeout id) _ refl (goes-idle id)
   does-done (RejectTimeout id) w n = quiet (RejectTimeout id) _ refl (goes-idle id)
   does-done NoReaction w n = quiet NoReaction _ refl freed-on

@@ -1,4 +1,5 @@
 // What a sending writes after a message's head, and what it leaves of the dialogue (01, "Dialogue states").
+use paper::ABRT;
 use paper::Component;
 use paper::Control;
 use paper::Reject;
@@ -199,7 +200,7 @@ pub fn abort_size(portion: &[u8]) -> usize
     ensures { λ r. ⌜ r ≡ length (abortPortion (now (portion .entry))) ⌝ }
 {
     if is_told(portion) {
-        return writing_portions::portion_size(4, 0, portion.len());
+        return writing_portions::portion_size(ABRT, 0, portion.len());
     }
     return portion.len();
 }
@@ -210,7 +211,7 @@ pub fn write_aborted(out: &mut [u8], at: usize, portion: &[u8]) -> usize
     ensures { λ r. ⌜ Wrote (now (out .entry)) at (abortPortion (now (portion .entry))) r (now (out .exit)) ⌝ }
 {
     if is_told(portion) {
-        return writing_portions::write_portion(out, at, 4, &portion[..0], portion);
+        return writing_portions::write_portion(out, at, ABRT, &portion[..0], portion);
     }
     return writing::copy_at(out, at, portion);
 }

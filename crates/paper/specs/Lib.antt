@@ -22,3 +22,4 @@ pub mod Computing
 pub mod Examples
 pub mod Cases
 pub mod LedgerCases
+pub mod PortionCases

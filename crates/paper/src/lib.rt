@@ -150,3 +150,12 @@ pub const FIRST_WAITING: usize = PLACES + WAITING;
 pub const LEAST_ROWS: usize = 4096;
 
 pub const LEAST_SPACE: usize = 272;
+
+// ---- THE DIALOGUE PDUS by their kind (02 a; specs/Portions has the same numbers), as in a row.
+pub const AARQ: u8 = 2;
+
+pub const AARE: u8 = 3;
+
+pub const ABRT: u8 = 4;
+
+pub const AUDT: u8 = 5;

@@ -10,12 +10,24 @@ ghost use Rattle.paper.specs.Portions.{runFrom, fromStart, portionAt, eight, po
 ghost use Rattle.paper.specs.Writing.{tlv};
 ghost use Rattle.portion.specs.Steps.{pduBy};
 ghost use Rattle.portion.specs.Bounds.{RunIn, PortionIn};
+use paper::AARE;
+use paper::AARQ;
+use paper::ABRT;
+use paper::AUDT;
 use paper::Frame;
 use paper::Pdu;
 use paper::Portion;
 use paper::Reading;
 use paper::Row;
 use paper::Run;
+
+// "65,535 none", of a result, a diagnostic or a source.
+const NO_VALUE: u32 = 65535;
+
+// The kinds beside those of the four PDUs.
+const ABSENT: u8 = 0;
+
+const OPAQUE: u8 = 1;
 
 const NO_FRAME: Frame = Frame {
     from: 0,
@@ -233,9 +245,9 @@ fn unread(at: usize) -> Pdu
         at,
         name: NO_RUN,
         information: NO_RUN,
-        result: 65535,
-        diagnostic: 65535,
-        source: 65535,
+        result: NO_VALUE,
+        diagnostic: NO_VALUE,
+        source: NO_VALUE,
     }
 }
 
@@ -450,12 +462,12 @@ pub fn portion_at(s: &[u8], start: usize, len: usize) -> Portion
 }
 
 // The eight numbers of a row, of a portion's kind and parts.
-fn row(kind: u32, n: Run, i: Run, result: u32, diagnostic: u32, source: u32) -> Row
+fn row(kind: u8, n: Run, i: Run, result: u32, diagnostic: u32, source: u32) -> Row
     requires { ⌜ RunIn 0xFFFFFFFF n × RunIn 0xFFFFFFFF i ⌝ }
     ensures { λ r. ⌜ r ≡ eight kind n i result diagnostic source ⌝ }
 {
     Row {
-        kind,
+        kind: kind as u32,
         dialogue: n.start as u32,
         invoke: n.length as u32,
         linked: i.start as u32,
@@ -472,11 +484,11 @@ pub fn row_of(p: Portion) -> Row
     ensures { λ r. ⌜ r ≡ portionRow p ⌝ }
 {
     match p {
-        Portion::Absent => row(0, NO_RUN, NO_RUN, 65535, 65535, 65535),
-        Portion::Opaque => row(1, NO_RUN, NO_RUN, 65535, 65535, 65535),
-        Portion::Aarq(n, i) => row(2, n, i, 65535, 65535, 65535),
-        Portion::Aare(n, i, r, d) => row(3, n, i, r, d, 65535),
-        Portion::Abrt(s, i) => row(4, NO_RUN, i, 65535, 65535, s),
-        Portion::Audt(n, i) => row(5, n, i, 65535, 65535, 65535),
+        Portion::Absent => row(ABSENT, NO_RUN, NO_RUN, NO_VALUE, NO_VALUE, NO_VALUE),
+        Portion::Opaque => row(OPAQUE, NO_RUN, NO_RUN, NO_VALUE, NO_VALUE, NO_VALUE),
+        Portion::Aarq(n, i) => row(AARQ, n, i, NO_VALUE, NO_VALUE, NO_VALUE),
+        Portion::Aare(n, i, r, d) => row(AARE, n, i, r, d, NO_VALUE),
+        Portion::Abrt(s, i) => row(ABRT, NO_RUN, i, NO_VALUE, NO_VALUE, s),
+        Portion::Audt(n, i) => row(AUDT, n, i, NO_VALUE, NO_VALUE, NO_VALUE),
     }
 }

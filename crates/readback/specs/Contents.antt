@@ -15,14 +15,15 @@ use Rattle.paper.specs.Elements.{constructor, frameAt}
 use Rattle.paper.specs.Problems.{noProblem}
 use Rattle.paper.specs.Components.{Item, invokeTag, errorTag, noID}
 use Rattle.paper.specs.Messages.{uniTag, beginTag, endTag, continueTag, abortTag, isSound}
+use Rattle.paper.specs.Portions.{portionOf, Spoken, spokenIn}
 use Rattle.paper.specs.Dialogues.{isCode, isPortion}
-use Rattle.paper.specs.Writing.{tlv, idThen, errorOctets, resultOctets, Written, octetsOf, joined, beginOctets, continueOctets, endOctets, uniOctets, userAbortOctets, causeAbortOctets}
+use Rattle.paper.specs.Writing.{tlv, idThen, errorOctets, resultOctets, Written, octetsOf, joined, componentsOctets, beginOctets, continueOctets, endOctets, uniOctets, userAbortOctets, causeAbortOctets}
 use Rattle.paper.specs.Writing.Written.{Invoke, Result, Error, Reject}
 use Rattle.paper.specs.Calls.{itemsOf}
 use Rattle.paper.specs.Rules.{isSoundItem}
 use Rattle.paper.specs.Contents.{between, resultFrame, codeAt, partsOf, Wire, contentBy, messageIn, contentOf}
-use Rattle.writing.specs.Heads.{messageHead, begin-joined, continue-joined, end-joined, uni-joined}
-use Rattle.writing.specs.Lengths.{length-small, element-length, message-small, message-length, id-length, invoke-plain, invoke-linked, result-both}
+use Rattle.writing.specs.Heads.{componentsHead, components-joined}
+use Rattle.writing.specs.Lengths.{length-small, element-length, components-small, id-length, invoke-plain, invoke-linked, result-both}
 use Rattle.readback.specs.Standing.{Has, Stands, has-as, has-at, has-first, has-rest, begins, ends, contents-back, frame-back}
 use Rattle.readback.specs.Written.{Allowed, readAs, parameterOf, AllAllowed, itemsFrom, fromOf, toOf, Back}
 use Rattle.readback.specs.Given.{code-told, code-copied}
@@ -166,7 +167,7 @@ all-parts-back s at (w ∷ ws) allowed has fits room =
 -- A MESSAGE that was read back as m, with its components, of at most 240 octets, at its end
 abbrev holds : Message → List ℕ → List ℕ → List ℕ → List Written → Wire
 holds m own peer user ws =
-    Wire.Holds (record { tag = m .tag; origin = own; destination = peer; portion = user; cause = m .cause; components = ws })
+    Wire.Holds (record { tag = m .tag; origin = own; destination = peer; portion = user; spoken = spokenIn user; cause = m .cause; components = ws })
 
 items-in : {s own peer user : List ℕ} {m : Message} (ws : List Written) → AllAllowed ws → length (joined ws) ≤ 240 → length (joined ws) < length s
     → Back s m own peer user (joined ws) → m .from ≡ fromOf (length s) (length (joined ws)) → itemsOf s m ≡ itemsFrom (m .from) ws
@@ -193,23 +194,29 @@ content-back {s} {own} {peer} {user} {m} ws allowed few long read sound from =
     sym (ne _ _ _ _ (λ z. omega arith)
     (eq _ _ _ _ sound (yes _ _ _ (ap (every isSoundItem) items ∙ items-sound (m .from) ws) is) ∙ ap (messageIn s) (sym (back .is))))
 
--- SIZES: of a message whose IDs take at most 12 octets; of an Abort
-joined-long : {ms : List ℕ} (tag : ℕ) (ids cs : List ℕ) → ms ≡ messageHead tag ids (length cs) ++ cs → length ids ≤ 12 → length cs ≤ 240
-    → (length cs < length ms) × (length ms ≤ 272)
-joined-long {ms} tag ids cs joins few most =
-    let n = message-length tag ids (length cs) in
-    let h = message-small (length ids) (length cs) in
-    let j = length-append (messageHead tag ids (length cs)) cs in
-    let m = ap length joins in
+-- SIZES: of an element whose contents, no less than cs, are at most 268 octets; of a portion and components of at most 240
+element-long : (tag : ℕ) (c cs : List ℕ) → length cs ≤ length c → length c ≤ 268 → (length cs < length (tlv tag c)) × (length (tlv tag c) ≤ 272)
+element-long tag c cs least most =
+    let n = element-length tag c in
+    let h = length-small (length c) in
     (omega arith, omega arith)
 
-abort-long : (peer rest : List ℕ) → length peer ≤ 4 → length rest ≤ 240 → (0 < length (tlv abortTag (tlv 0x49 peer ++ rest))) × (length (tlv abortTag (tlv 0x49 peer ++ rest)) ≤ 272)
-abort-long peer rest few most =
-    let n = element-length abortTag (tlv 0x49 peer ++ rest) in
-    let h = length-small (length (tlv 0x49 peer ++ rest)) in
-    let j = length-append (tlv 0x49 peer) rest in
-    let i = id-length 0x49 peer (omega arith) in
+rest-long : (portion cs : List ℕ) → length portion + length cs ≤ 240
+    → (length cs ≤ length (portion ++ componentsOctets cs)) × (length (portion ++ componentsOctets cs) ≤ 244)
+rest-long portion cs most =
+    let j = ap length (components-joined cs) in
+    let n = length-append (componentsHead (length cs)) cs in
+    let h = components-small (length cs) in
+    let m = length-append portion (componentsOctets cs) in
     (omega arith, omega arith)
+
+-- after an ID
+id-long : (tag k : ℕ) (id rest cs : List ℕ) → length id ≤ 4 → length cs ≤ length rest → length rest ≤ 250
+    → (length cs < length (tlv tag (tlv k id ++ rest))) × (length (tlv tag (tlv k id ++ rest)) ≤ 272)
+id-long tag k id rest cs few least most =
+    let j = length-append (tlv k id) rest in
+    let i = id-length k id (omega arith) in
+    element-long tag (tlv k id ++ rest) cs (omega arith) (omega arith)
 
 -- AN ABORT has no components
 abort-content : {s peer user : List ℕ} {m : Message} → (0 < length s) × (length s ≤ 272) → (length s < 65536 → Back s m [] peer user [])
@@ -222,67 +229,93 @@ pub nothing-content : contentOf [] ≡ Wire.Nothing
 unfolding contentOf
 nothing-content = sym (eq 0 0 _ _ refl refl)
 
+-- no portion says nothing
+pub silent : spokenIn [] ≡ Spoken.Silent
+unfolding spokenIn portionOf ifEq
+silent = refl
+
 module _ (own : List ℕ) (some : 1 ≤ length own) (few : length own ≤ 4) where
-  begin-long : (cs : List ℕ) → length cs ≤ 240 → (length cs < length (beginOctets own cs)) × (length (beginOctets own cs) ≤ 272)
-  begin-long cs = joined-long beginTag (tlv 0x48 own) cs (begin-joined own cs) (omega (arith, id-length 0x48 own (omega arith)))
+  begin-long : (portion cs : List ℕ) → length portion + length cs ≤ 240 → (length cs < length (beginOctets own portion cs)) × (length (beginOctets own portion cs) ≤ 272)
+  unfolding beginOctets
+  begin-long portion cs most = let r = rest-long portion cs most in id-long beginTag 0x48 own (portion ++ componentsOctets cs) cs few (omega arith) (omega arith)
 
-  pub begin-fits : (cs : List ℕ) → length cs ≤ 240 → length (beginOctets own cs) ≤ 272
-  begin-fits cs most = begin-long cs most .1
+  pub begin-fits : (portion cs : List ℕ) → length portion + length cs ≤ 240 → length (beginOctets own portion cs) ≤ 272
+  begin-fits portion cs most = begin-long portion cs most .1
 
-  pub begin-content : (ws : List Written) → AllAllowed ws → length (joined ws) ≤ 240
-      → contentOf (beginOctets own (joined ws)) ≡ Wire.Holds (record { tag = beginTag; origin = own; destination = []; portion = []; cause = noProblem; components = ws })
-  begin-content ws allowed most = content-back ws allowed most (begin-long (joined ws) most) (begin-read-back own some few (joined ws)) refl refl
+  pub begin-content : (portion : List ℕ) → isPortion portion ≡ true → (ws : List Written) → AllAllowed ws → length portion + length (joined ws) ≤ 240
+      → contentOf (beginOctets own portion (joined ws))
+      ≡ Wire.Holds (record { tag = beginTag; origin = own; destination = []; portion = portion; spoken = spokenIn portion; cause = noProblem; components = ws })
+  begin-content portion formed ws allowed most =
+      content-back ws allowed (omega arith) (begin-long portion (joined ws) most) (begin-read-back own some few portion formed (joined ws)) refl refl
 
   module _ (peer : List ℕ) (least : 1 ≤ length peer) (less : length peer ≤ 4) where
-    continue-long : (cs : List ℕ) → length cs ≤ 240 → (length cs < length (continueOctets own peer cs)) × (length (continueOctets own peer cs) ≤ 272)
-    continue-long cs =
-        let n = id-length 0x48 own (omega arith) in
-        let m = id-length 0x49 peer (omega arith) in
-        joined-long continueTag (tlv 0x48 own ++ tlv 0x49 peer) cs (continue-joined own peer cs) (omega (arith, length-append (tlv 0x48 own) (tlv 0x49 peer)))
+    continue-long : (portion cs : List ℕ) → length portion + length cs ≤ 240
+        → (length cs < length (continueOctets own peer portion cs)) × (length (continueOctets own peer portion cs) ≤ 272)
+    unfolding continueOctets
+    continue-long portion cs most =
+        let r = rest-long portion cs most in
+        let j = length-append (tlv 0x49 peer) (portion ++ componentsOctets cs) in
+        let i = id-length 0x49 peer (omega arith) in
+        id-long continueTag 0x48 own (tlv 0x49 peer ++ (portion ++ componentsOctets cs)) cs few (omega arith) (omega arith)
 
-    pub continue-fits : (cs : List ℕ) → length cs ≤ 240 → length (continueOctets own peer cs) ≤ 272
-    continue-fits cs most = continue-long cs most .1
+    pub continue-fits : (portion cs : List ℕ) → length portion + length cs ≤ 240 → length (continueOctets own peer portion cs) ≤ 272
+    continue-fits portion cs most = continue-long portion cs most .1
 
-    pub continue-content : (ws : List Written) → AllAllowed ws → length (joined ws) ≤ 240
-        → contentOf (continueOctets own peer (joined ws)) ≡ Wire.Holds (record { tag = continueTag; origin = own; destination = peer; portion = []; cause = noProblem; components = ws })
-    continue-content ws allowed most =
-        content-back ws allowed most (continue-long (joined ws) most) (continue-read-back own some few peer least less (joined ws)) refl refl
+    pub continue-content : (portion : List ℕ) → isPortion portion ≡ true → (ws : List Written) → AllAllowed ws → length portion + length (joined ws) ≤ 240
+        → contentOf (continueOctets own peer portion (joined ws))
+        ≡ Wire.Holds (record { tag = continueTag; origin = own; destination = peer; portion = portion; spoken = spokenIn portion; cause = noProblem; components = ws })
+    continue-content portion formed ws allowed most =
+        content-back ws allowed (omega arith) (continue-long portion (joined ws) most)
+        (continue-read-back own some few peer least less portion formed (joined ws)) refl refl
 
 module _ (peer : List ℕ) (some : 1 ≤ length peer) (few : length peer ≤ 4) where
-  end-long : (cs : List ℕ) → length cs ≤ 240 → (length cs < length (endOctets peer cs)) × (length (endOctets peer cs) ≤ 272)
-  end-long cs = joined-long endTag (tlv 0x49 peer) cs (end-joined peer cs) (omega (arith, id-length 0x49 peer (omega arith)))
+  end-long : (portion cs : List ℕ) → length portion + length cs ≤ 240 → (length cs < length (endOctets peer portion cs)) × (length (endOctets peer portion cs) ≤ 272)
+  unfolding endOctets
+  end-long portion cs most = let r = rest-long portion cs most in id-long endTag 0x49 peer (portion ++ componentsOctets cs) cs few (omega arith) (omega arith)
 
-  pub end-fits : (cs : List ℕ) → length cs ≤ 240 → length (endOctets peer cs) ≤ 272
-  end-fits cs most = end-long cs most .1
+  pub end-fits : (portion cs : List ℕ) → length portion + length cs ≤ 240 → length (endOctets peer portion cs) ≤ 272
+  end-fits portion cs most = end-long portion cs most .1
 
-  pub end-content : (ws : List Written) → AllAllowed ws → length (joined ws) ≤ 240
-      → contentOf (endOctets peer (joined ws)) ≡ Wire.Holds (record { tag = endTag; origin = []; destination = peer; portion = []; cause = noProblem; components = ws })
-  end-content ws allowed most = content-back ws allowed most (end-long (joined ws) most) (end-read-back peer some few (joined ws)) refl refl
+  pub end-content : (portion : List ℕ) → isPortion portion ≡ true → (ws : List Written) → AllAllowed ws → length portion + length (joined ws) ≤ 240
+      → contentOf (endOctets peer portion (joined ws))
+      ≡ Wire.Holds (record { tag = endTag; origin = []; destination = peer; portion = portion; spoken = spokenIn portion; cause = noProblem; components = ws })
+  end-content portion formed ws allowed most =
+      content-back ws allowed (omega arith) (end-long portion (joined ws) most) (end-read-back peer some few portion formed (joined ws)) refl refl
+
+  abort-long : (rest : List ℕ) → length rest ≤ 240 → (0 < length (tlv abortTag (tlv 0x49 peer ++ rest))) × (length (tlv abortTag (tlv 0x49 peer ++ rest)) ≤ 272)
+  abort-long rest most = id-long abortTag 0x49 peer rest [] few (omega arith) (omega arith)
 
   pub user-abort-fits : (portion : List ℕ) → length portion ≤ 240 → length (userAbortOctets peer portion) ≤ 272
   unfolding userAbortOctets
-  user-abort-fits portion most = abort-long peer portion few most .1
+  user-abort-fits portion most = abort-long portion most .1
 
   pub user-abort-content : (portion : List ℕ) → isPortion portion ≡ true → length portion ≤ 240
-      → contentOf (userAbortOctets peer portion) ≡ Wire.Holds (record { tag = abortTag; origin = []; destination = peer; portion = portion; cause = noProblem; components = [] })
+      → contentOf (userAbortOctets peer portion)
+      ≡ Wire.Holds (record { tag = abortTag; origin = []; destination = peer; portion = portion; spoken = spokenIn portion; cause = noProblem; components = [] })
   unfolding userAbortOctets
-  user-abort-content portion formed most = abort-content (abort-long peer portion few most) (user-abort-read-back peer some few portion formed) refl refl
+  user-abort-content portion formed most = abort-content (abort-long portion most) (user-abort-read-back peer some few portion formed) refl refl
 
   pub cause-abort-fits : (cause : ℕ) → length (causeAbortOctets peer cause) ≤ 272
   unfolding causeAbortOctets
-  cause-abort-fits cause = abort-long peer (0x4A ∷ 1 ∷ cause ∷ []) few (omega arith) .1
+  cause-abort-fits cause = abort-long (0x4A ∷ 1 ∷ cause ∷ []) (omega arith) .1
 
   pub cause-abort-content : (cause : ℕ) → cause < 5
-      → contentOf (causeAbortOctets peer cause) ≡ Wire.Holds (record { tag = abortTag; origin = []; destination = peer; portion = []; cause = cause; components = [] })
+      → contentOf (causeAbortOctets peer cause)
+      ≡ Wire.Holds (record { tag = abortTag; origin = []; destination = peer; portion = []; spoken = Spoken.Silent; cause = cause; components = [] })
   unfolding causeAbortOctets
-  cause-abort-content cause small = abort-content (abort-long peer (0x4A ∷ 1 ∷ cause ∷ []) few (omega arith)) (λ _. cause-abort-read-back peer some few cause small) refl refl
+  cause-abort-content cause small =
+      abort-content (abort-long (0x4A ∷ 1 ∷ cause ∷ []) (omega arith)) (λ _. cause-abort-read-back peer some few cause small) refl refl
+      ∙ ap (λ (w : Spoken). Wire.Holds (record { tag = abortTag; origin = []; destination = peer; portion = []; spoken = w; cause = cause; components = [] })) silent
 
-uni-long : (cs : List ℕ) → length cs ≤ 240 → (length cs < length (uniOctets cs)) × (length (uniOctets cs) ≤ 272)
-uni-long cs = joined-long uniTag [] cs (uni-joined cs) (omega arith)
+uni-long : (portion cs : List ℕ) → length portion + length cs ≤ 240 → (length cs < length (uniOctets portion cs)) × (length (uniOctets portion cs) ≤ 272)
+unfolding uniOctets
+uni-long portion cs most = let r = rest-long portion cs most in element-long uniTag (portion ++ componentsOctets cs) cs (omega arith) (omega arith)
 
-pub uni-fits : (cs : List ℕ) → length cs ≤ 240 → length (uniOctets cs) ≤ 272
-uni-fits cs most = uni-long cs most .1
+pub uni-fits : (portion cs : List ℕ) → length portion + length cs ≤ 240 → length (uniOctets portion cs) ≤ 272
+uni-fits portion cs most = uni-long portion cs most .1
 
-pub uni-content : (ws : List Written) → AllAllowed ws → (length (joined ws) ≡ 0 → ⊥) → length (joined ws) ≤ 240
-    → contentOf (uniOctets (joined ws)) ≡ Wire.Holds (record { tag = uniTag; origin = []; destination = []; portion = []; cause = noProblem; components = ws })
-uni-content ws allowed some most = content-back ws allowed most (uni-long (joined ws) most) (uni-read-back (joined ws) some) refl refl
+pub uni-content : (portion : List ℕ) → isPortion portion ≡ true → (ws : List Written) → AllAllowed ws → (length (joined ws) ≡ 0 → ⊥)
+    → length portion + length (joined ws) ≤ 240 → contentOf (uniOctets portion (joined ws))
+    ≡ Wire.Holds (record { tag = uniTag; origin = []; destination = []; portion = portion; spoken = spokenIn portion; cause = noProblem; components = ws })
+uni-content portion formed ws allowed some most =
+    content-back ws allowed (omega arith) (uni-long portion (joined ws) most) (uni-read-back portion formed (joined ws) some) refl refl

@@ -9,3 +9,7 @@ pub mod Order
 pub mod Places
 pub mod ReadBack
 pub mod Contents
+pub mod Upto
+pub mod Pdus
+pub mod Shells
+pub mod Spoken

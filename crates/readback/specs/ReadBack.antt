@@ -53,20 +53,21 @@ pub written-read-back : (old new : List ℕ) (lim at r : ℕ) (w : Written) → 
     → length (octetsOf w) < 65536 → at + length (octetsOf w) ≤ lim → componentAt new lim at ≡ readAs w (at + length (octetsOf w))
 written-read-back old new lim at r w allowed wrote space fits room = component-read-back new lim at w allowed (has-wrote wrote space) fits room
 
--- THE MESSAGES, with IDs of 1 to 4 octets
+-- THE MESSAGES, with IDs of 1 to 4 octets and a dialogue portion, "a whole 6B element or none"
 module _ (own : List ℕ) (some : 1 ≤ length own) (few : length own ≤ 4) where
-  pub begin-read-back : (cs : List ℕ) → length (beginOctets own cs) < 65536 → Back (beginOctets own cs) (readBegin own cs) own [] [] cs
+  pub begin-read-back : (portion : List ℕ) → isPortion portion ≡ true → (cs : List ℕ) → length (beginOctets own portion cs) < 65536
+      → Back (beginOctets own portion cs) (readBegin own portion cs) own [] portion cs
   begin-read-back = begin-back own some few
 
-  pub continue-read-back : (peer : List ℕ) → 1 ≤ length peer → length peer ≤ 4 → (cs : List ℕ) → length (continueOctets own peer cs) < 65536
-      → Back (continueOctets own peer cs) (readContinue own peer cs) own peer [] cs
+  pub continue-read-back : (peer : List ℕ) → 1 ≤ length peer → length peer ≤ 4 → (portion : List ℕ) → isPortion portion ≡ true → (cs : List ℕ)
+      → length (continueOctets own peer portion cs) < 65536 → Back (continueOctets own peer portion cs) (readContinue own peer portion cs) own peer portion cs
   continue-read-back = continue-back own some few
 
 module _ (peer : List ℕ) (some : 1 ≤ length peer) (few : length peer ≤ 4) where
-  pub end-read-back : (cs : List ℕ) → length (endOctets peer cs) < 65536 → Back (endOctets peer cs) (readEnd peer cs) [] peer [] cs
+  pub end-read-back : (portion : List ℕ) → isPortion portion ≡ true → (cs : List ℕ) → length (endOctets peer portion cs) < 65536
+      → Back (endOctets peer portion cs) (readEnd peer portion cs) [] peer portion cs
   end-read-back = end-back peer some few
 
-  -- "a whole 6B element or none"
   pub user-abort-read-back : (user : List ℕ) → isPortion user ≡ true → length (userAbortOctets peer user) < 65536
       → Back (userAbortOctets peer user) (readUserAbort peer user) [] peer user []
   user-abort-read-back = user-abort-back peer some few
@@ -74,7 +75,8 @@ module _ (peer : List ℕ) (some : 1 ≤ length peer) (few : length peer ≤ 4) 
   pub cause-abort-read-back : (cause : ℕ) → cause < 5 → Back (causeAbortOctets peer cause) (readCauseAbort peer cause) [] peer [] []
   cause-abort-read-back = cause-abort-back peer some few
 
-pub uni-read-back : (cs : List ℕ) → (length cs ≡ 0 → ⊥) → length (uniOctets cs) < 65536 → Back (uniOctets cs) (readUni cs) [] [] [] cs
+pub uni-read-back : (portion : List ℕ) → isPortion portion ≡ true → (cs : List ℕ) → (length cs ≡ 0 → ⊥) → length (uniOctets portion cs) < 65536
+    → Back (uniOctets portion cs) (readUni portion cs) [] [] portion cs
 uni-read-back = uni-back
 
 -- THE COMPONENTS OF A MESSAGE that was read back are those put in, in order

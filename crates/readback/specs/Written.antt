@@ -14,7 +14,7 @@ use Rattle.paper.specs.Components.{invokeTag, lastTag, errorTag, rejectTag, not
 use Rattle.paper.specs.Messages.{uniTag, beginTag, endTag, continueTag, abortTag, noRun, Derived, soundOf, messageOf}
 use Rattle.paper.specs.Dialogues.{isCode, isParameter, isResult}
 use Rattle.paper.specs.Calls.{octetsAt}
-use Rattle.paper.specs.Writing.{lengthOctets, tlv, Written, octetsOf, componentsOctets, beginOctets, continueOctets, endOctets, uniOctets, userAbortOctets}
+use Rattle.paper.specs.Writing.{lengthOctets, tlv, Written, octetsOf, componentsOctets, beginOctets, continueOctets, endOctets, uniOctets}
 use Rattle.paper.specs.Writing.Written.{Invoke, Result, Error, Reject}
 use Rattle.readback.specs.Standing.{Has}
 
@@ -69,33 +69,41 @@ fromOf x n = ifEq n 0 0 (x - n)
 abbrev pub toOf : ℕ → ℕ → ℕ
 toOf x n = ifEq n 0 0 x
 
--- a sound message s with its type and IDs, and components cs at its end; an Abort, with the user's octets at its end, or a cause
-abbrev pub withComponents : List ℕ → List ℕ → Derived → Message
-withComponents s cs d = soundOf d noRun (fromOf (length s) (length cs)) (toOf (length s) (length cs)) noProblem
+-- octets that are put at p, 0 and 0 where there is none
+abbrev pub runAt : ℕ → List ℕ → Run
+runAt p l = run (ifEq (length l) 0 0 p) (length l)
 
-abbrev pub readBegin : List ℕ → List ℕ → Message
-readBegin own cs =
-    withComponents (beginOctets own cs) cs
-    (record { tag = beginTag; origin = run (starts (tlv 0x48 own ++ componentsOctets cs) + 2) (length own); destination = noRun })
+-- a sound message s with its type and IDs, its dialogue portion, and components cs at its end; an Abort, with a portion or a cause
+abbrev pub withComponents : List ℕ → Run → List ℕ → Derived → Message
+withComponents s portion cs d = soundOf d portion (fromOf (length s) (length cs)) (toOf (length s) (length cs)) noProblem
 
-abbrev pub readContinue : List ℕ → List ℕ → List ℕ → Message
-readContinue own peer cs =
-    let b = starts (tlv 0x48 own ++ (tlv 0x49 peer ++ componentsOctets cs)) in
-    withComponents (continueOctets own peer cs) cs
+abbrev pub readBegin : List ℕ → List ℕ → List ℕ → Message
+readBegin own portion cs =
+    let b = starts (tlv 0x48 own ++ (portion ++ componentsOctets cs)) in
+    withComponents (beginOctets own portion cs) (runAt (b + 2 + length own) portion) cs
+    (record { tag = beginTag; origin = run (b + 2) (length own); destination = noRun })
+
+abbrev pub readContinue : List ℕ → List ℕ → List ℕ → List ℕ → Message
+readContinue own peer portion cs =
+    let b = starts (tlv 0x48 own ++ (tlv 0x49 peer ++ (portion ++ componentsOctets cs))) in
+    withComponents (continueOctets own peer portion cs) (runAt (b + 2 + length own + 2 + length peer) portion) cs
     (record { tag = continueTag; origin = run (b + 2) (length own); destination = run (b + 2 + length own + 2) (length peer) })
 
-abbrev pub readEnd : List ℕ → List ℕ → Message
-readEnd peer cs =
-    withComponents (endOctets peer cs) cs
-    (record { tag = endTag; origin = noRun; destination = run (starts (tlv 0x49 peer ++ componentsOctets cs) + 2) (length peer) })
+abbrev pub readEnd : List ℕ → List ℕ → List ℕ → Message
+readEnd peer portion cs =
+    let b = starts (tlv 0x49 peer ++ (portion ++ componentsOctets cs)) in
+    withComponents (endOctets peer portion cs) (runAt (b + 2 + length peer) portion) cs
+    (record { tag = endTag; origin = noRun; destination = run (b + 2) (length peer) })
 
-abbrev pub readUni : List ℕ → Message
-readUni cs = withComponents (uniOctets cs) cs (record { tag = uniTag; origin = noRun; destination = noRun })
+abbrev pub readUni : List ℕ → List ℕ → Message
+readUni portion cs =
+    withComponents (uniOctets portion cs) (runAt (starts (portion ++ componentsOctets cs)) portion) cs
+    (record { tag = uniTag; origin = noRun; destination = noRun })
 
 abbrev pub readUserAbort : List ℕ → List ℕ → Message
 readUserAbort peer user =
-    soundOf (record { tag = abortTag; origin = noRun; destination = run (starts (tlv 0x49 peer ++ user) + 2) (length peer) })
-    (run (fromOf (length (userAbortOctets peer user)) (length user)) (length user)) 0 0 noProblem
+    let b = starts (tlv 0x49 peer ++ user) in
+    soundOf (record { tag = abortTag; origin = noRun; destination = run (b + 2) (length peer) }) (runAt (b + 2 + length peer) user) 0 0 noProblem
 
 abbrev pub readCauseAbort : List ℕ → ℕ → Message
 readCauseAbort peer cause =

@@ -44,23 +44,11 @@ fn receive(table: &mut [u8], rows: &mut [u8], space: &mut [u8], line: &mut [u8])
 }
 
 // A request or an event that names a dialogue alone.
-fn on_dialogue(table: &mut [u8], rows: &mut [u8], space: &mut [u8], line: &[u8]) -> Reply {
+fn on_dialogue(table: &mut [u8], rows: &mut [u8], line: &[u8]) -> Reply {
     let n = asked::on_dialogue(line);
     let service = n.service;
     let dialogue = n.dialogue;
     if n.ok {
-        if asked::verb(line, b"begin") {
-            return sending::send_begin(table, service, dialogue, space);
-        }
-        if asked::verb(line, b"continue") {
-            return sending::send_continue(table, service, dialogue, space);
-        }
-        if asked::verb(line, b"end") {
-            return sending::send_end(table, service, dialogue, space);
-        }
-        if asked::verb(line, b"uni") {
-            return sending::send_unidirectional(table, service, dialogue, space);
-        }
         if asked::verb(line, b"prearranged") {
             return timing::end_prearranged(table, service, dialogue);
         }
@@ -102,9 +90,7 @@ fn reject(table: &mut [u8], line: &[u8]) -> Reply {
     let n = asked::on_invocation(line);
     let p = asked::number(line, 4);
     if n.ok && p.ok {
-        if asked::verb(line, b"reject") {
-            return passing::reject(table, n.service, n.dialogue, n.id, p.value);
-        }
+        return passing::reject(table, n.service, n.dialogue, n.id, p.value);
     }
     unread()
 }
@@ -160,12 +146,39 @@ fn invoke(table: &mut [u8], line: &[u8], given: Pair) -> Reply {
     unread()
 }
 
-// One that gives an operation or error and a parameter, in its last two fields, with k others before them.
-fn with_pair(table: &mut [u8], line: &mut [u8], k: usize) -> Reply
+// A sending, with a context name and user information.
+fn send(table: &mut [u8], space: &mut [u8], line: &[u8], given: Pair) -> Reply {
+    let n = asked::on_dialogue(line);
+    let service = n.service;
+    let dialogue = n.dialogue;
+    let name = fields::cut(line, given.first);
+    let information = fields::cut(line, given.second);
+    if n.ok {
+        if asked::verb(line, b"begin") {
+            return sending::send_begin(table, service, dialogue, name, information, space);
+        }
+        if asked::verb(line, b"continue") {
+            return sending::send_continue(table, service, dialogue, name, information, space);
+        }
+        if asked::verb(line, b"end") {
+            return sending::send_end(table, service, dialogue, name, information, space);
+        }
+        if asked::verb(line, b"uni") {
+            return sending::send_unidirectional(table, service, dialogue, name, information, space);
+        }
+    }
+    unread()
+}
+
+// One that gives octets in its last two fields, with k others before them.
+fn with_pair(table: &mut [u8], space: &mut [u8], line: &mut [u8], k: usize) -> Reply
     requires { ⌜ k < 8 ⌝ }
 {
     let given = fields::octets_of_two(line, b' ', k);
     if given.ok {
+        if k == 3 {
+            return send(table, space, line, given);
+        }
         if k == 4 && asked::verb(line, b"error") {
             return error(table, line, given);
         }
@@ -187,7 +200,7 @@ fn with_three(table: &mut [u8], rows: &mut [u8], space: &mut [u8], line: &mut [u
     if asked::verb(line, b"recv") {
         return receive(table, rows, space, line);
     }
-    on_dialogue(table, rows, space, line)
+    on_dialogue(table, rows, line)
 }
 
 fn with_four(table: &mut [u8], rows: &mut [u8], space: &mut [u8], line: &mut [u8]) -> Reply {
@@ -195,6 +208,13 @@ fn with_four(table: &mut [u8], rows: &mut [u8], space: &mut [u8], line: &mut [u8
         return abort(table, space, line);
     }
     on_invocation(table, rows, line)
+}
+
+fn with_five(table: &mut [u8], space: &mut [u8], line: &mut [u8]) -> Reply {
+    if asked::verb(line, b"reject") {
+        return reject(table, line);
+    }
+    with_pair(table, space, line, 3)
 }
 
 fn reply_to(table: &mut [u8], rows: &mut [u8], space: &mut [u8], line: &mut [u8]) -> Reply {
@@ -209,16 +229,16 @@ fn reply_to(table: &mut [u8], rows: &mut [u8], space: &mut [u8], line: &mut [u8]
         return with_four(table, rows, space, line);
     }
     if n == 4 {
-        return reject(table, line);
+        return with_five(table, space, line);
     }
     if n == 5 {
-        return with_pair(table, line, 4);
+        return with_pair(table, space, line, 4);
     }
     if n == 6 {
-        return with_pair(table, line, 5);
+        return with_pair(table, space, line, 5);
     }
     if n == 7 {
-        return with_pair(table, line, 6);
+        return with_pair(table, space, line, 6);
     }
     unread()
 }
@@ -236,6 +256,26 @@ fn parameter(line: &mut [u8], number: u64) {
             start.value as usize,
             count.value as usize,
         );
+        return;
+    }
+    text::bad(number, b' ');
+}
+
+// `portion OCTETS START LENGTH`
+fn portion(rows: &mut [u8], line: &mut [u8], number: u64) {
+    let n = fields::separators(line, b' ');
+    let start = asked::number(line, 2);
+    let count = asked::number(line, 3);
+    let f = asked::field(line, 1);
+    let m = fields::octets_or_none(line, f);
+    if n == 3 && start.ok && count.ok && m.ok {
+        asking::portion(
+            fields::cut(line, m),
+            start.value as usize,
+            count.value as usize,
+            rows,
+        );
+        show::portion_line(rows);
         return;
     }
     text::bad(number, b' ');
@@ -291,6 +331,10 @@ pub fn play(table: &mut [u8], rows: &mut [u8], space: &mut [u8], line: &mut [u8]
     }
     if asked::verb(line, b"components") {
         components(line, number);
+        return;
+    }
+    if asked::verb(line, b"portion") {
+        portion(rows, line, number);
         return;
     }
     called(table, rows, space, line, number);

@@ -41,21 +41,28 @@ pub fn reply(r: Reply, opens: bool, space: &[u8]) {
     text::say(&out, n);
 }
 
-// `r n n n n n n n n`
-fn row(rows: &[u8], k: u32) {
+// A sign, and the eight numbers of a row.
+fn row(sign: u8, rows: &[u8], k: u32) {
     let mut out = [0u8; 256];
-    let a = text::put(&mut out, 0, b'r');
+    let a = text::put(&mut out, 0, sign);
     let b = listing::row(&mut out, a, rows, (k as usize) * 32);
     let n = text::put(&mut out, b, b'\n');
     text::say(&out, n);
 }
 
+// `r n n n n n n n n`
+
 pub fn row_lines(rows: &[u8], count: u32) {
     let mut k = 0;
     while k < count {
-        row(rows, k);
+        row(b'r', rows, k);
         k += 1;
     }
+}
+
+// `= KIND NSTART NLENGTH ISTART ILENGTH RESULT DIAGNOSTIC SOURCE`
+pub fn portion_line(rows: &[u8]) {
+    row(b'=', rows, 0);
 }
 
 // `= START LENGTH OCTETS`

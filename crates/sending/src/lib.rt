@@ -1,6 +1,9 @@
 // The requests that send a message (01, "Dialogue states"): each refused by its number, or the message written and the table changed.
 use entry::Met;
 use entry::Reply;
+use paper::AARE;
+use paper::AARQ;
+use paper::AUDT;
 use paper::Control;
 use paper::LEAST_SPACE;
 ghost use mathlib.Core.Path.{_≡_};
@@ -147,7 +150,7 @@ fn write_begin(
 {
     let m = rest_size(f);
     let a = writing_messages::begin_front(out, 0, dialogue, m);
-    return write_rest(out, a, t, p, c, 2, name, information, f);
+    return write_rest(out, a, t, p, c, AARQ, name, information, f);
 }
 
 // A Continue, with an AARE.
@@ -168,7 +171,7 @@ fn write_continue(
     let m = rest_size(f);
     let peer = c.peer;
     let a = writing_messages::continue_front(out, 0, dialogue, peer, c.peerlen as usize, m);
-    return write_rest(out, a, t, p, c, 3, name, information, f);
+    return write_rest(out, a, t, p, c, AARE, name, information, f);
 }
 
 // An End, with an AARE.
@@ -188,7 +191,7 @@ fn write_end(
     let m = rest_size(f);
     let peer = c.peer;
     let a = writing_messages::end_front(out, 0, peer, c.peerlen as usize, m);
-    return write_rest(out, a, t, p, c, 3, name, information, f);
+    return write_rest(out, a, t, p, c, AARE, name, information, f);
 }
 
 // A Unidirectional, with an AUDT.
@@ -207,7 +210,7 @@ fn write_uni(
 {
     let m = rest_size(f);
     let a = writing_messages::uni_front(out, 0, m);
-    return write_rest(out, a, t, p, c, 5, name, information, f);
+    return write_rest(out, a, t, p, c, AUDT, name, information, f);
 }
 
 // "Begin (to Sent) .. need Open."
@@ -229,11 +232,11 @@ pub fn send_begin(
     let p = m.place;
     let c = places::load(table, p);
     let state = open_refusal(c.state);
-    let refusal = refusal_with(table, p, c, state, 2, name, information);
+    let refusal = refusal_with(table, p, c, state, AARQ, name, information);
     if refusal != 0 {
         return entry::refused(refusal);
     }
-    let f = what_follows(table, p, c, 2, name, information);
+    let f = what_follows(table, p, c, AARQ, name, information);
     let e = write_begin(space, table, p, c, dialogue, name, information, f);
     outgoing::leave_at(table, p, c, 2, f.fits);
     return entry::done(0, e as u32);
@@ -258,11 +261,11 @@ pub fn send_continue(
     let p = m.place;
     let c = places::load(table, p);
     let state = peer_refusal(c.state);
-    let refusal = refusal_with(table, p, c, state, 3, name, information);
+    let refusal = refusal_with(table, p, c, state, AARE, name, information);
     if refusal != 0 {
         return entry::refused(refusal);
     }
-    let f = what_follows(table, p, c, 3, name, information);
+    let f = what_follows(table, p, c, AARE, name, information);
     let e = write_continue(space, table, p, c, dialogue, name, information, f);
     outgoing::leave_at(table, p, c, 4, f.fits);
     return entry::done(0, e as u32);
@@ -287,11 +290,11 @@ pub fn send_end(
     let p = m.place;
     let c = places::load(table, p);
     let state = peer_refusal(c.state);
-    let refusal = refusal_with(table, p, c, state, 3, name, information);
+    let refusal = refusal_with(table, p, c, state, AARE, name, information);
     if refusal != 0 {
         return entry::refused(refusal);
     }
-    let f = what_follows(table, p, c, 3, name, information);
+    let f = what_follows(table, p, c, AARE, name, information);
     let e = write_end(space, table, p, c, name, information, f);
     places::free_at(table, p);
     return entry::done(0, e as u32);
@@ -316,11 +319,11 @@ pub fn send_unidirectional(
     let p = m.place;
     let c = places::load(table, p);
     let state = outgoing::uni_refusal(table, p, c);
-    let refusal = refusal_with(table, p, c, state, 5, name, information);
+    let refusal = refusal_with(table, p, c, state, AUDT, name, information);
     if refusal != 0 {
         return entry::refused(refusal);
     }
-    let f = what_follows(table, p, c, 5, name, information);
+    let f = what_follows(table, p, c, AUDT, name, information);
     let e = write_uni(space, table, p, c, name, information, f);
     places::free_at(table, p);
     return entry::done(0, e as u32);

@@ -63,7 +63,8 @@ fn begin(table: &mut [u8], space: &mut [u8], line: &[u8]) -> Played {
     let s = service(line);
     let d = fields::dialogue(part(line, 2));
     if s.ok && d.ok {
-        let r = sending::send_begin(table, s.value, d.value, space);
+        let none = &line[0..0];
+        let r = sending::send_begin(table, s.value, d.value, none, none, space);
         return about(r, true, d.value);
     }
     unread()

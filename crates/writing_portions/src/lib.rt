@@ -1,4 +1,7 @@
-// The dialogue portions written (02 a): into a lent space, at a position. A PDU is told by its kind: 2 AARQ, 3 AARE, 4 ABRT, 5 AUDT.
+// The dialogue portions written (02 a): into a lent space, at a position. A PDU is told by its kind.
+use paper::AARE;
+use paper::ABRT;
+use paper::AUDT;
 ghost use mathlib.Core.Path.{_≡_};
 ghost use Prim.Native.Nat.{_+_, _≤_};
 ghost use lib.ListN.{length};
@@ -15,7 +18,7 @@ fn name_size(kind: u8, name: usize) -> usize
     ensures is { λ r. ⌜ r ≡ nameSize kind name ⌝ }
     ensures within { λ r. ⌜ r ≤ name + 4 ⌝ }
 {
-    if kind == 4 {
+    if kind == ABRT {
         return 0;
     }
     if name == 0 {
@@ -29,10 +32,10 @@ fn between_size(kind: u8) -> usize
     ensures is { λ r. ⌜ r ≡ length (between kind) ⌝ }
     ensures within { λ r. ⌜ r ≤ 12 ⌝ }
 {
-    if kind == 3 {
+    if kind == AARE {
         return 12;
     }
-    if kind == 4 {
+    if kind == ABRT {
         return 3;
     }
     0
@@ -85,7 +88,7 @@ fn write_name(out: &mut [u8], at: usize, kind: u8, name: &[u8]) -> usize
     requires { ⌜ (length (now name) ≤ 240) × (at + nameSize kind (length (now name)) ≤ length (now out)) ⌝ }
     ensures { λ r. ⌜ Wrote (now (out .entry)) at (nameOctets kind (now (name .entry))) r (now (out .exit)) ⌝ }
 {
-    if kind == 4 {
+    if kind == ABRT {
         return at;
     }
     if name.len() == 0 {
@@ -100,11 +103,11 @@ fn write_between(out: &mut [u8], at: usize, kind: u8) -> usize
     requires { ⌜ at + length (between kind) ≤ length (now out) ⌝ }
     ensures { λ r. ⌜ Wrote (now (out .entry)) at (between kind) r (now (out .exit)) ⌝ }
 {
-    if kind == 3 {
+    if kind == AARE {
         let accepted = [0xA2u8, 3, 2, 1, 0, 0xA3, 5, 0xA1, 3, 2, 1, 0];
         return writing::copy_at(out, at, &accepted);
     }
-    if kind == 4 {
+    if kind == ABRT {
         return writing::write_single(out, at, 0x80, 0);
     }
     at
@@ -124,7 +127,7 @@ fn write_pdu(out: &mut [u8], at: usize, kind: u8, name: &[u8], information: &[u8
 fn identifier(kind: u8) -> [u8; 9]
     ensures { λ r. ⌜ r ≡ tlv 6 (formFor kind .identifier) ⌝ }
 {
-    if kind == 5 {
+    if kind == AUDT {
         return [6, 7, 0, 0x11, 0x86, 5, 1, 2, 1];
     }
     [6, 7, 0, 0x11, 0x86, 5, 1, 1, 1]
@@ -134,10 +137,10 @@ fn identifier(kind: u8) -> [u8; 9]
 fn tag_of(kind: u8) -> u8
     ensures { λ r. ⌜ r ≡ formFor kind .tag ⌝ }
 {
-    if kind == 3 {
+    if kind == AARE {
         return 0x61;
     }
-    if kind == 4 {
+    if kind == ABRT {
         return 0x64;
     }
     0x60

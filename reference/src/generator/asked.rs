@@ -1,5 +1,6 @@
 //! Requests as a user makes them: fitting the dialogue's state, or right or wrong in each of their parts.
 
+use super::giving;
 use super::random::Random;
 use super::samples;
 use crate::calls::Request;
@@ -38,12 +39,26 @@ fn new_id(random: &mut Random, dialogue: &Dialogue) -> i8 {
 pub fn fitting(random: &mut Random, dialogue: &Dialogue) -> Request {
     let sending = random.chance(40);
     match dialogue.state {
-        State::Open if sending => random.pick(&[Request::Begin, Request::Begin, Request::Unidirectional]),
+        State::Open if sending => opening(random),
         State::Open => invoke(random, dialogue),
         State::Sent if random.chance(4) => Request::NoReaction,
-        State::Received | State::Active if sending && random.chance(12) => Request::End,
-        State::Received | State::Active if sending => Request::Continue,
+        State::Received | State::Active if sending => answering(random, dialogue.state),
         _ => component_request(random, dialogue),
+    }
+}
+
+fn opening(random: &mut Random) -> Request {
+    let given = giving::sometimes(random, 20);
+    random.pick(&[Request::Begin(given.clone()), Request::Begin(given.clone()), Request::Unidirectional(given)])
+}
+
+/// A Continue, or now and then an End; only from Received they take a portion.
+fn answering(random: &mut Random, state: State) -> Request {
+    let given = giving::sometimes(random, if state == State::Received { 25 } else { 2 });
+    if random.chance(12) {
+        Request::End(given)
+    } else {
+        Request::Continue(given)
     }
 }
 
@@ -127,11 +142,12 @@ pub fn any_request(random: &mut Random, dialogue: &Dialogue) -> Request {
         5 => Request::Timeout { id },
         6 => Request::RejectTimeout { id },
         7 => Request::NoReaction,
-        8 => Request::Begin,
-        9 => Request::Continue,
-        10 => Request::Unidirectional,
+        8 => Request::Begin(giving::sometimes(random, 20)),
+        9 => Request::Continue(giving::sometimes(random, 20)),
+        10 => Request::Unidirectional(giving::sometimes(random, 20)),
         11 => Request::Abort { portion: odd_portion(random) },
-        12 if random.chance(30) => random.pick(&[Request::Prearranged, Request::End]),
+        12 if random.chance(15) => Request::Prearranged,
+        12 if random.chance(15) => Request::End(giving::sometimes(random, 20)),
         _ => component_request(random, dialogue),
     }
 }
@@ -165,11 +181,12 @@ pub fn odd_element(random: &mut Random) -> Vec<u8> {
     }
 }
 
-/// A dialogue portion, or octets near one.
+/// What an abort is given: a dialogue portion or an information, or octets near one.
 pub fn odd_portion(random: &mut Random) -> Vec<u8> {
-    match random.below(5) {
+    match random.below(7) {
         0 => Vec::new(),
         1 => odd_element(random),
+        3 | 4 => giving::for_abort(random),
         2 => {
             let portion = samples::portion(random);
             portion.damaged(random, 1)

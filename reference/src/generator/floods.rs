@@ -1,5 +1,6 @@
 //! Floods of opens and Begins against guarantees and limits.
 
+use super::giving;
 use super::random::Random;
 use super::recorder::Recorder;
 use super::samples;
@@ -86,14 +87,14 @@ fn give_back(recorder: &mut Recorder, random: &mut Random, service: u32, local_i
         (0, _) => Request::Abort { portion: Vec::new() },
         (1, _) => Request::Prearranged,
         (2, State::Sent) => Request::NoReaction,
-        (_, State::Open) => Request::Begin,
-        (3, _) => Request::Continue,
+        (_, State::Open) => Request::Begin(giving::sometimes(random, 5)),
+        (3, _) => Request::Continue(giving::sometimes(random, 5)),
         (4, State::Active | State::Sent) => {
             let abort = samples::abort(random, &local_id.to_be_bytes());
             recorder.receive(service, abort.encode());
             return;
         }
-        _ => Request::End,
+        _ => Request::End(giving::sometimes(random, 5)),
     };
     recorder.request(service, local_id, end);
 }

@@ -1,13 +1,15 @@
 //! Each limit, and one past it: invocations, waiting octets and rejects, portions, messages, IDs.
 
+use super::giving;
 use super::random::Random;
 use super::recorder::{continue_with, end_with, Recorder};
 use crate::calls::Request;
 use crate::coding;
+use crate::given::Given;
 use crate::writing;
 
 const SERVICE: u32 = 11;
-const OPERATION: [u8; 3] = [0x02, 0x01, 0x3B];
+pub const OPERATION: [u8; 3] = [0x02, 0x01, 0x3B];
 const IDS: [i8; 10] = [-128, 127, 0, -1, 1, 2, 3, 4, 5, 6];
 
 pub fn sequences(random: &mut Random) -> Vec<Recorder> {
@@ -51,12 +53,12 @@ fn invocations(recorder: &mut Recorder, random: &mut Random, local_id: u32) {
     recorder.request(SERVICE, local_id, invoke(99, 1, Vec::new()));
 }
 
-fn invoke(id: i8, class: u32, parameter: Vec<u8>) -> Request {
+pub fn invoke(id: i8, class: u32, parameter: Vec<u8>) -> Request {
     Request::Invoke { id, linked: None, class, operation: OPERATION.to_vec(), parameter }
 }
 
 /// A parameter that makes a component of this length, if one does.
-fn parameter_for(length: usize, write: impl Fn(&[u8]) -> Vec<u8>) -> Option<Vec<u8>> {
+pub fn parameter_for(length: usize, write: impl Fn(&[u8]) -> Vec<u8>) -> Option<Vec<u8>> {
     let parameters = (0..=240).map(|count| coding::write(0x04, &vec![0; count]));
     parameters.into_iter().find(|parameter| write(parameter).len() == length)
 }
@@ -103,7 +105,7 @@ fn waiting(recorder: &mut Recorder, random: &mut Random, local_id: u32) {
 
 /// Up to ten faulty or unexpected components, then as many octets as just fit beside their rejects, or do not.
 fn rejects(recorder: &mut Recorder, random: &mut Random, local_id: u32) {
-    recorder.request(SERVICE, local_id, Request::Begin);
+    recorder.request(SERVICE, local_id, Request::Begin(Given::NONE));
     for _ in 0..random.within(6, 10) {
         let component = rejected_component(random);
         recorder.receive(SERVICE, continue_with(random, local_id, &component));
@@ -135,12 +137,13 @@ fn rejected_component(random: &mut Random) -> Vec<u8> {
     random.pick(&components).to_vec()
 }
 
-/// A portion of 239 to 241 octets.
+/// An abort's portion of 239 to 241 octets, given whole or formed from an information.
 fn portion(recorder: &mut Recorder, random: &mut Random, local_id: u32) {
     let length = random.within(239, 241);
     let contents = (200..=240).map(|count| coding::write(0x04, &vec![0; count]));
     let mut portions = contents.map(|contents| coding::write(0x6B, &contents));
-    let portion = portions.find(|portion| portion.len() == length).unwrap_or_default();
+    let whole = portions.find(|portion| portion.len() == length).unwrap_or_default();
+    let portion = if random.chance(60) { whole } else { giving::abort_of_length(length) };
     recorder.request(SERVICE, local_id, Request::Abort { portion });
 }
 
@@ -155,9 +158,14 @@ fn message_size(recorder: &mut Recorder, random: &mut Random) {
 }
 
 fn send(recorder: &mut Recorder, random: &mut Random, local_id: u32) {
-    let requests = [Request::Continue, Request::Continue, Request::Continue, Request::Begin, Request::Unidirectional];
-    recorder.request(SERVICE, local_id, random.pick(&requests));
+    let given = giving::sometimes(random, 10);
+    let request = match random.below(5) {
+        0 => Request::Begin(given),
+        1 => Request::Unidirectional(given),
+        _ => Request::Continue(given),
+    };
+    recorder.request(SERVICE, local_id, request);
     if random.chance(10) {
-        recorder.request(SERVICE, local_id, Request::End);
+        recorder.request(SERVICE, local_id, Request::End(giving::sometimes(random, 20)));
     }
 }

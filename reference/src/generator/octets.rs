@@ -1,6 +1,8 @@
 //! The edges of Coding: tags, lengths, nesting, order and endings, at every level of a message.
 
 use super::asked::{odd_element, odd_portion};
+use super::giving;
+use super::pdus;
 use super::random::Random;
 use super::recorder::Recorder;
 use super::samples::{self, Parts};
@@ -30,7 +32,8 @@ pub fn sequences(random: &mut Random) -> Vec<Recorder> {
 /// A dialogue that a Begin opened sends its rejects and goes.
 fn after(recorder: &mut Recorder, random: &mut Random, reply: &Reply) {
     if let Some(row) = reply.rows.first().filter(|row| row.kind == crate::rows::BEGIN) {
-        let end = random.pick(&[Request::End, Request::Prearranged, Request::Abort { portion: Vec::new() }]);
+        let end = Request::End(giving::sometimes(random, 20));
+        let end = random.pick(&[end, Request::Prearranged, Request::Abort { portion: Vec::new() }]);
         recorder.request(SERVICE, row.local_id, end);
     }
 }
@@ -43,7 +46,7 @@ fn given(recorder: &mut Recorder, random: &mut Random, local_id: u32) {
         0 => Request::Invoke { id: samples::any_id(random), linked: Some(127), class: 2, operation, parameter },
         1 => Request::Result { id: -128, last: random.chance(50), operation, parameter },
         2 => Request::Error { id: 127, error: operation, parameter },
-        3 => Request::Continue,
+        3 => Request::Continue(giving::sometimes(random, 20)),
         4 if random.chance(40) => Request::Abort { portion: odd_portion(random) },
         _ => return,
     };
@@ -77,9 +80,10 @@ fn any_message(random: &mut Random, local_id: u32) -> Tree {
 }
 
 fn deep_portion(random: &mut Random) -> Tree {
-    match random.below(4) {
+    match random.below(5) {
         0 | 1 => return samples::portion(random),
         2 => return any_edge(random, 0x6B, Vec::new()),
+        3 => return pdus::any(random),
         _ => {}
     }
     let levels = random.within(14, 17);

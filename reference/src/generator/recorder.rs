@@ -3,7 +3,9 @@
 use super::random::Random;
 use super::samples;
 use crate::calls::{self, Call, Reply, Request};
+use crate::coding;
 use crate::dialogue::Dialogue;
+use crate::given::Given;
 use crate::reader;
 use crate::shares::SERVICES;
 use crate::table::{Table, PLACES};
@@ -74,6 +76,26 @@ impl Recorder {
         let nudge = if random.chance(15) { random.below(3) } else { 1 };
         let length = (run.len() + nudge).saturating_sub(1);
         self.read(Line::Parameter { octets: octets.to_vec(), start: run.start, length });
+        if random.chance(if octets.contains(&0x6B) { 60 } else { 4 }) {
+            self.read_portion(random, octets);
+        }
+    }
+
+    /// Asks for the dialogue portion at or near a 6B of a message, or at any run, in the message or not.
+    pub fn read_portion(&mut self, random: &mut Random, octets: &[u8]) {
+        let octets = octets[..octets.len().min(LONGEST)].to_vec();
+        let framed = |at: usize| coding::frame(&octets, at, 0).map(|frame| (at, frame.whole.len()));
+        let found: Vec<_> = (0..octets.len()).filter(|at| octets[*at] == 0x6B).filter_map(framed).collect();
+        let any = (random.below(octets.len() + 2), random.below(octets.len() + 2));
+        let first = found.first().copied().unwrap_or(any);
+        let (start, length) = match random.below(10) {
+            0 => any,
+            1 if !found.is_empty() => random.pick(&found),
+            _ => first,
+        };
+        let (start, length) =
+            if random.chance(70) { (start as u64, length as u64) } else { near(random, start, length) };
+        self.read(Line::Portion { octets, start, length });
     }
 
     pub fn known(&self) -> Vec<Known> {
@@ -90,7 +112,7 @@ impl Recorder {
     /// A dialogue brought to Active by a peer's Continue.
     pub fn active(&mut self, random: &mut Random, service: u32) -> Option<u32> {
         let local_id = self.open(service)?;
-        self.request(service, local_id, Request::Begin);
+        self.request(service, local_id, Request::Begin(Given::NONE));
         self.receive(service, continue_with(random, local_id, &[]));
         Some(local_id)
     }
@@ -102,27 +124,44 @@ impl Recorder {
     }
 }
 
+/// A run that is another by little, or ends past the message, past 32 bits or past 64.
+fn near(random: &mut Random, start: usize, length: usize) -> (u64, u64) {
+    let (start, length) = (start as u64, length as u64);
+    match random.below(10) {
+        0 => (start + 1, length),
+        1 => (start.saturating_sub(1), length),
+        2 => (start, length + 1),
+        3 => (start, length.saturating_sub(1)),
+        4 => (start, random.pick(&[0, 1, 2])),
+        5 => (start, length + random.pick(&[1 << 8, 1 << 16, 1 << 32, 1 << 63])),
+        6 => (start + random.pick(&[1 << 8, 1 << 16, 1 << 32, 1 << 63]), length),
+        7 => (start, random.pick(&[u64::MAX, start.wrapping_neg(), length.wrapping_sub(start)])),
+        8 => (random.pick(&[u64::MAX, length.wrapping_neg(), start.wrapping_sub(length)]), length),
+        _ => (u64::MAX, u64::MAX),
+    }
+}
+
 fn begin_from(peer: &[u8]) -> Vec<u8> {
-    let contents = crate::coding::write(0x48, peer);
-    crate::coding::write(0x62, &contents)
+    let contents = coding::write(0x48, peer);
+    coding::write(0x62, &contents)
 }
 
 /// A Continue to one of our dialogues, with these octets as components if there are any.
 pub fn continue_with(random: &mut Random, local_id: u32, components: &[u8]) -> Vec<u8> {
     let peer = samples::peer_id(random);
-    let mut contents = crate::coding::write(0x48, &peer);
+    let mut contents = coding::write(0x48, &peer);
     contents.extend(end_contents(local_id, components));
-    crate::coding::write(0x65, &contents)
+    coding::write(0x65, &contents)
 }
 
 pub fn end_with(local_id: u32, components: &[u8]) -> Vec<u8> {
-    crate::coding::write(0x64, &end_contents(local_id, components))
+    coding::write(0x64, &end_contents(local_id, components))
 }
 
 fn end_contents(local_id: u32, components: &[u8]) -> Vec<u8> {
-    let mut contents = crate::coding::write(0x49, &local_id.to_be_bytes());
+    let mut contents = coding::write(0x49, &local_id.to_be_bytes());
     if !components.is_empty() {
-        contents.extend(crate::coding::write(0x6C, components));
+        contents.extend(coding::write(0x6C, components));
     }
     contents
 }

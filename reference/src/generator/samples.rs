@@ -1,5 +1,6 @@
 //! Sample octets: elements, components and messages, sound unless said otherwise.
 
+use super::pdus;
 use super::random::Random;
 use super::tree::{any_node, leaf, node, sound_long_tag, Tree};
 
@@ -157,9 +158,10 @@ pub fn component(random: &mut Random, ids: &[i8]) -> Tree {
     }
 }
 
-/// A dialogue portion.
+/// A dialogue portion, with a PDU or without.
 pub fn portion(random: &mut Random) -> Tree {
-    match random.below(4) {
+    match random.below(7) {
+        4..=6 => pdus::sound(random),
         0 => any_node(random, 0x6B, Vec::new()),
         1 => any_node(random, 0x6B, vec![node(0x28, vec![leaf(0x06, &[0x2A, 3])])]),
         2 => {

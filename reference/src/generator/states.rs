@@ -5,6 +5,7 @@ use super::recorder::{continue_with, end_with, Recorder};
 use super::samples;
 use super::tree::{leaf, node, Tree};
 use crate::calls::Request;
+use crate::given::Given;
 use crate::invocations::State;
 
 const SERVICE: u32 = 3;
@@ -34,7 +35,7 @@ fn one(recorder: &mut Recorder, random: &mut Random) {
     for _ in 0..random.within(1, 4) {
         probe(recorder, random, local_id, id);
     }
-    recorder.request(SERVICE, local_id, Request::Continue);
+    recorder.request(SERVICE, local_id, Request::Continue(Given::NONE));
     probe(recorder, random, local_id, id);
     recorder.request(SERVICE, local_id, Request::Prearranged);
 }
@@ -60,7 +61,7 @@ fn bring_to_state(recorder: &mut Recorder, random: &mut Random, local_id: u32, i
     if steps == 1 {
         return;
     }
-    recorder.request(SERVICE, local_id, Request::Continue);
+    recorder.request(SERVICE, local_id, Request::Continue(Given::NONE));
     let octet = id as u8;
     if steps == 3 || steps == 6 {
         recorder.receive(SERVICE, continue_with(random, local_id, &[0xA7, 3, 2, 1, octet]));

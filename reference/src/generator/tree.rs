@@ -106,7 +106,7 @@ impl Tree {
         }
     }
 
-    fn count(&self) -> usize {
+    pub fn count(&self) -> usize {
         match self {
             Tree::Node { children, .. } => 1 + children.iter().map(Tree::count).sum::<usize>(),
             _ => 1,
@@ -114,7 +114,7 @@ impl Tree {
     }
 
     /// The tree of this number, counted from the root, each before its children.
-    fn find(&mut self, number: usize) -> &mut Tree {
+    pub fn find(&mut self, number: usize) -> &mut Tree {
         if number == 0 {
             return self;
         }
@@ -147,7 +147,7 @@ impl Tree {
         self.encode()
     }
 
-    fn set_tag(&mut self, new: Vec<u8>) {
+    pub fn set_tag(&mut self, new: Vec<u8>) {
         match self {
             Tree::Leaf { tag, .. } | Tree::Node { tag, .. } => *tag = new,
             Tree::Raw(octets) => {
