@@ -19,9 +19,9 @@ refusalOf n state kind name info = first (malformed name info) (first (overBy n 
 
 -- the first of two numbers that isn't 0
 module _ (n m : ℕ) where
-  pub first-none : n ≡ 0 → m ≡ first n m
+  pub first-none : (k : ℕ) → n ≡ 0 → k ≡ m → k ≡ first n m
   unfolding first
-  first-none h = eq _ _ _ _ h refl
+  first-none k h e = eq _ _ _ _ h e
 
   pub first-some : (n ≡ 0 → ⊥) → n ≡ first n m
   unfolding first
@@ -38,11 +38,11 @@ first-malformed true false k = refl
 first-malformed false b k = refl
 
 -- AT A PLACE where n octets wait
-pub refusal-is : (x : Place) (n kind : ℕ) (name info : List ℕ) → n ≡ length (x .waiting)
-    → refusalOf n (x .control .state) kind name info ≡ portionRefusal x (formFor kind) name info
+pub refusal-is : (x : Place) (n state kind r : ℕ) (name info : List ℕ) → n ≡ length (x .waiting) → state ≡ x .control .state
+    → r ≡ refusalOf n state kind name info → r ≡ portionRefusal x (formFor kind) name info
 unfolding refusalOf malformed portionRefusal overfull
-refusal-is x n kind name info e =
-    ap (λ (k : ℕ). refusalOf k (x .control .state) kind name info) e
+refusal-is x n state kind r name info a b e =
+    e ∙ ap (λ (k : ℕ). refusalOf k state kind name info) a ∙ ap (λ (k : ℕ). refusalOf (length (x .waiting)) k kind name info) b
     ∙ first-malformed (isName name) (isInformation info) (first (overfull x (portionBy (formFor kind) name info)) (unplaced (x .control .state) name info))
 
 -- NOT REFUSED: waiting octets and portion are at most 240 together
@@ -70,4 +70,4 @@ module _ (n state kind : ℕ) (name info : List ℕ) where
   refusal-none a b h =
       let p : [] ≡ portionBy (formFor kind) name info = eq _ _ _ _ (omega arith) refl in
       refusal-by 0 0 0 0 0 (yes _ _ _ (sym (eq _ _ _ _ a refl)) (yes _ _ _ (sym (eq _ _ _ _ b refl)) refl)) (ge _ _ _ _ (omega (arith, ap length p)) refl)
-      (eq _ _ _ _ a (eq _ _ _ _ b refl)) (first-none 0 0 refl) (first-none 0 0 refl)
+      (eq _ _ _ _ a (eq _ _ _ _ b refl)) (first-none 0 0 0 refl refl) (first-none 0 0 0 refl refl)

@@ -1,10 +1,10 @@
-use mathlib.Core.Path.{ap, _∙_}
+use mathlib.Core.Path.{ap}
 use Rattle.paper.specs.declared.Control.{Control}
 use Rattle.paper.specs.Dialogues.{Place, portionRefusal}
 use Rattle.paper.specs.Calls.{placeAt}
 use Rattle.paper.specs.Layout.{view}
 use Rattle.writing_portions.specs.Forms.{formFor}
-use Rattle.given.specs.Portion.{refusalOf, refusal-is, first-none, first-some}
+use Rattle.given.specs.Portion.{refusal-is, first-none, first-some}
 use borrow.Author.Needs.{needs}
 use Rattle.sending.proofs.refusal_with.Statement.{statement}
 use Rattle.sending.proofs.refusal_with.Tie as tie
@@ -30,10 +30,9 @@ returns-2 c =
     let waiting-length = c .before .waiting-length in
     let portion-refusal = c .portion-refusal in
     let x : Place = placeAt (view (args .t .now)) (args .p) in
-    portion-refusal .ensures
-    ∙ ap (λ (k : Control). refusalOf (waiting-length .result) (k .state) (args .kind) (args .name .now) (args .information .now)) (pre .0 .control)
-    ∙ refusal-is x (waiting-length .result) (args .kind) (args .name .now) (args .information .now) (waiting-length .ensures .0)
-    ∙ first-none (args .state) (portionRefusal x (formFor (args .kind)) (args .name .now) (args .information .now)) (if1 .left)
+    first-none (args .state) (portionRefusal x (formFor (args .kind)) (args .name .now) (args .information .now)) (portion-refusal .result) (if1 .left)
+    (refusal-is x (waiting-length .result) (args .c .state) (args .kind) (portion-refusal .result) (args .name .now) (args .information .now) (waiting-length .ensures .0)
+    (ap (λ (k : Control). k .state) (pre .0 .control)) (portion-refusal .ensures))
 
 pub refusal-with-spec : {M : Type 1} → statement M
 refusal-with-spec =
