@@ -8,7 +8,7 @@ use paper::Control;
 use paper::LEAST_SPACE;
 ghost use mathlib.Core.Path.{_≡_};
 ghost use mathlib.Core.List.{[]};
-ghost use Prim.Native.Nat.{_+_, _≤_};
+ghost use Prim.Native.Nat.{_+_, _<_, _≤_};
 ghost use lib.ListN.{length};
 ghost use Rattle.laws.specs.Runs.{Wrote};
 ghost use Rattle.paper.specs.Sizes.{idOctets};
@@ -21,6 +21,7 @@ ghost use Rattle.paper.specs.Calls.Call.{OnDialogue};
 ghost use Rattle.paper.specs.Layout.{view};
 ghost use Rattle.paper.specs.Outcome.{Gives, outcome};
 ghost use Rattle.facts.specs.Fine.{FineControl};
+ghost use Rattle.facts.specs.Ready.{Ready};
 ghost use Rattle.writing_portions.specs.Forms.{formFor};
 ghost use Rattle.outgoing.specs.Sent.{Holds};
 ghost use Rattle.sending.specs.Starts.{Starts, openRefusal, peerRefusal, abortBy};
@@ -66,20 +67,20 @@ fn peer_refusal(state: u8) -> u32
 fn refusal_with(
     t: &[u8],
     p: usize,
-    c: Control,
-    state: u32,
+    state: u8,
+    early: u32,
     kind: u8,
     name: &[u8],
     information: &[u8],
 ) -> u32
-    requires { ⌜ Holds (now t) p c × (kind ≡ 4 → ⊥) ⌝ }
-    ensures { λ r. ⌜ r ≡ first state (portionRefusal (placeAt (view (now (t .entry))) p) (formFor kind) (now (name .entry)) (now (information .entry))) ⌝ }
+    requires { ⌜ Ready (now t) × (p < 128) × (state ≡ placeAt (view (now t)) p .control .state) × (kind ≡ 4 → ⊥) ⌝ }
+    ensures { λ r. ⌜ r ≡ first early (portionRefusal (placeAt (view (now (t .entry))) p) (formFor kind) (now (name .entry)) (now (information .entry))) ⌝ }
 {
-    if state != 0 {
-        return state;
+    if early != 0 {
+        return early;
     }
     let n = places::waiting_length(t, p);
-    return given::portion_refusal(n, c.state, kind, name, information);
+    return given::portion_refusal(n, state, kind, name, information);
 }
 
 // What follows a message's IDs: the octets of its dialogue portion; whether the waiting rejects go; the octets of components.
@@ -231,8 +232,8 @@ pub fn send_begin(
     }
     let p = m.place;
     let c = places::load(table, p);
-    let state = open_refusal(c.state);
-    let refusal = refusal_with(table, p, c, state, AARQ, name, information);
+    let early = open_refusal(c.state);
+    let refusal = refusal_with(table, p, c.state, early, AARQ, name, information);
     if refusal != 0 {
         return entry::refused(refusal);
     }
@@ -260,8 +261,8 @@ pub fn send_continue(
     }
     let p = m.place;
     let c = places::load(table, p);
-    let state = peer_refusal(c.state);
-    let refusal = refusal_with(table, p, c, state, AARE, name, information);
+    let early = peer_refusal(c.state);
+    let refusal = refusal_with(table, p, c.state, early, AARE, name, information);
     if refusal != 0 {
         return entry::refused(refusal);
     }
@@ -289,8 +290,8 @@ pub fn send_end(
     }
     let p = m.place;
     let c = places::load(table, p);
-    let state = peer_refusal(c.state);
-    let refusal = refusal_with(table, p, c, state, AARE, name, information);
+    let early = peer_refusal(c.state);
+    let refusal = refusal_with(table, p, c.state, early, AARE, name, information);
     if refusal != 0 {
         return entry::refused(refusal);
     }
@@ -318,8 +319,8 @@ pub fn send_unidirectional(
     }
     let p = m.place;
     let c = places::load(table, p);
-    let state = outgoing::uni_refusal(table, p, c);
-    let refusal = refusal_with(table, p, c, state, AUDT, name, information);
+    let early = outgoing::uni_refusal(table, p, c);
+    let refusal = refusal_with(table, p, c.state, early, AUDT, name, information);
     if refusal != 0 {
         return entry::refused(refusal);
     }

@@ -1,5 +1,3 @@
-use mathlib.Core.Path.{ap}
-use Rattle.paper.specs.declared.Control.{Control}
 use Rattle.paper.specs.Dialogues.{Place, portionRefusal}
 use Rattle.paper.specs.Calls.{placeAt}
 use Rattle.paper.specs.Layout.{view}
@@ -14,7 +12,7 @@ returns c =
     let args = c .before .before .before .before .args in
     let if1 = c .if1 in
     let x : Place = placeAt (view (args .t .now)) (args .p) in
-    first-some (args .state) (portionRefusal x (formFor (args .kind)) (args .name .now) (args .information .now)) (if1 .taken)
+    first-some (args .early) (portionRefusal x (formFor (args .kind)) (args .name .now) (args .information .now)) (if1 .taken)
 
 waiting-length-requires : tie.Need-waiting-length-requires
 waiting-length-requires c κs = search needs
@@ -30,9 +28,9 @@ returns-2 c =
     let waiting-length = c .before .waiting-length in
     let portion-refusal = c .portion-refusal in
     let x : Place = placeAt (view (args .t .now)) (args .p) in
-    first-none (args .state) (portionRefusal x (formFor (args .kind)) (args .name .now) (args .information .now)) (portion-refusal .result) (if1 .left)
-    (refusal-is x (waiting-length .result) (args .c .state) (args .kind) (portion-refusal .result) (args .name .now) (args .information .now) (waiting-length .ensures .0)
-    (ap (λ (k : Control). k .state) (pre .0 .control)) (portion-refusal .ensures))
+    first-none (args .early) (portionRefusal x (formFor (args .kind)) (args .name .now) (args .information .now)) (portion-refusal .result) (if1 .left)
+    (refusal-is x (waiting-length .result) (args .state) (args .kind) (portion-refusal .result) (args .name .now) (args .information .now) (waiting-length .ensures .0)
+    (pre .2) (portion-refusal .ensures))
 
 pub refusal-with-spec : {M : Type 1} → statement M
 refusal-with-spec =
