@@ -1,0 +1,44 @@
+use mathlib.Core.Path.{refl}
+use native.Mathlib.Omega.{arith}
+use Rattle.laws.specs.Runs.{wrote-as, wrote-more}
+use Rattle.writing_portions.specs.Forms.{formFor, identifier-length, around-length}
+use Rattle.writing_portions.specs.Spans.{portion-around, portion-joined}
+use borrow.Author.Needs.{needs}
+use Rattle.writing_portions.proofs.write_formed.Statement.{statement}
+use Rattle.writing_portions.proofs.write_formed.Tie as tie
+
+pdu-size-requires : tie.Need-pdu-size-requires
+pdu-size-requires c κs = search needs
+
+write-around-requires : tie.Need-write-around-requires
+write-around-requires c κs =
+    let args = c .before .before .before .before .before .args in
+    let pre = c .before .before .before .before .before .pre in
+    let e = c .before .pdu-size .ensures .0 in
+    let z = portion-around (args .kind) (args .name .now) (args .information .now) (pre .2) _ e in
+    omega (arith, z)
+
+write-pdu-requires : tie.Need-write-pdu-requires
+write-pdu-requires c κs =
+    let args = c .before .before .before .before .before .before .before .before .before .args in
+    let pre = c .before .before .before .before .before .before .before .before .before .pre in
+    let e = c .before .before .before .before .before .pdu-size .ensures .0 in
+    let z = portion-around (args .kind) (args .name .now) (args .information .now) (pre .2) _ e in
+    let w = c .before .before .before .write-around .ensures in
+    omega (arith, e, z, w .past, w .long, around-length (formFor (args .kind)) (identifier-length (args .kind)) (c .before .before .before .before .before .pdu-size .result))
+
+same-length : tie.Need-same-length
+same-length c = search needs
+
+returns : tie.Need-returns
+returns c =
+    let args = c .before .before .before .before .before .before .before .before .before .before .before .before .args in
+    let pre = c .before .before .before .before .before .before .before .before .before .before .before .before .pre in
+    let e = c .before .before .before .before .before .before .before .before .pdu-size .ensures .0 in
+    wrote-as (wrote-more (c .before .before .before .before .before .before .write-around .ensures) refl (c .before .before .write-pdu .ensures))
+    (portion-joined (args .kind) (args .name .now) (args .information .now) (pre .2) _ e)
+
+pub write-formed-spec : {M : Type 1} → statement M
+write-formed-spec =
+    tie.close
+    (tie.spec pdu-size-requires write-around-requires write-pdu-requires same-length returns)
