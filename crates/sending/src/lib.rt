@@ -22,6 +22,7 @@ ghost use Rattle.paper.specs.Layout.{view};
 ghost use Rattle.paper.specs.Outcome.{Gives, outcome};
 ghost use Rattle.facts.specs.Fine.{FineControl};
 ghost use Rattle.facts.specs.Ready.{Ready};
+ghost use Rattle.writing.specs.Lengths.{Room};
 ghost use Rattle.writing_portions.specs.Forms.{formFor};
 ghost use Rattle.outgoing.specs.Sent.{Holds};
 ghost use Rattle.sending.specs.Starts.{Starts, openRefusal, peerRefusal, abortBy};
@@ -113,6 +114,24 @@ fn rest_size(f: Follow) -> usize
     f.portion + m
 }
 
+// A dialogue portion of q octets: most messages have none, and pay one test for it.
+fn write_given(
+    out: &mut [u8],
+    at: usize,
+    kind: u8,
+    name: &[u8],
+    information: &[u8],
+    q: usize,
+) -> usize
+    requires { ⌜ (length (now name) ≤ 240) × (length (now information) ≤ 240) × (q ≡ length (portionBy (formFor kind) (now name) (now information))) × Room (now out) at q ⌝ }
+    ensures { λ r. ⌜ Wrote (now (out .entry)) at (portionBy (formFor kind) (now (name .entry)) (now (information .entry))) r (now (out .exit)) ⌝ }
+{
+    if q == 0 {
+        return at;
+    }
+    return writing_portions::write_portion(out, at, kind, name, information);
+}
+
 // What follows the IDs of each of the four messages: its dialogue portion, the 6C's head, what is sent.
 fn write_rest(
     out: &mut [u8],
@@ -128,7 +147,7 @@ fn write_rest(
     requires { ⌜ Holds (now t) p c × Follows (placeAt (view (now t)) p) kind (now name) (now information) (f .portion) (f .fits) (f .length) × (at + restSize (f .portion) (f .length) ≤ length (now out)) ⌝ }
     ensures { λ r. ⌜ Wrote (now (out .entry)) at (rest (portionBy (formFor kind) (now (name .entry)) (now (information .entry))) (sentComponents (placeAt (view (now (t .entry))) p) (f .fits))) r (now (out .exit)) ⌝ }
 {
-    let a = writing_portions::write_portion(out, at, kind, name, information);
+    let a = write_given(out, at, kind, name, information, f.portion);
     let n = f.length;
     let b = writing_messages::write_components(out, a, n);
     return outgoing::write_sent(out, b, t, p, c, f.fits);

@@ -160,17 +160,7 @@ fn write_around(out: &mut [u8], at: usize, kind: u8, n: usize) -> usize
     writing::write_head(out, e, tag_of(kind), n)
 }
 
-// A portion with a name and user information, of which one is given.
-fn write_formed(out: &mut [u8], at: usize, kind: u8, name: &[u8], information: &[u8]) -> usize
-    requires { ⌜ (length (now name) ≤ 240) × (length (now information) ≤ 240) × (length (now name) + length (now information) ≡ 0 → ⊥) × Room (now out) at (length (portionBy (formFor kind) (now name) (now information))) ⌝ }
-    ensures { λ r. ⌜ Wrote (now (out .entry)) at (portionBy (formFor kind) (now (name .entry)) (now (information .entry))) r (now (out .exit)) ⌝ }
-{
-    let n = pdu_size(kind, name.len(), information.len());
-    let a = write_around(out, at, kind, n);
-    write_pdu(out, a, kind, name, information)
-}
-
-// A portion: nothing where neither is given. Apart from the writing, so that most messages pay two tests for it.
+// A portion with a name and user information: nothing where neither is given.
 pub fn write_portion(out: &mut [u8], at: usize, kind: u8, name: &[u8], information: &[u8]) -> usize
     requires { ⌜ (length (now name) ≤ 240) × (length (now information) ≤ 240) × Room (now out) at (length (portionBy (formFor kind) (now name) (now information))) ⌝ }
     ensures { λ r. ⌜ Wrote (now (out .entry)) at (portionBy (formFor kind) (now (name .entry)) (now (information .entry))) r (now (out .exit)) ⌝ }
@@ -178,5 +168,7 @@ pub fn write_portion(out: &mut [u8], at: usize, kind: u8, name: &[u8], informati
     if name.len() + information.len() == 0 {
         return at;
     }
-    write_formed(out, at, kind, name, information)
+    let n = pdu_size(kind, name.len(), information.len());
+    let a = write_around(out, at, kind, n);
+    write_pdu(out, a, kind, name, information)
 }
