@@ -85,7 +85,8 @@ static void print_portion(const uint8_t *message, size_t octets, struct tcap_spa
     print_unless(TCAP_NO_VALUE, "from", tcap_portion_number(said, TCAP_PORTION_SOURCE));
     printf("\n");
     if (tcap_portion_number(said, TCAP_PORTION_NAME_LENGTH) > 0)
-        print_octets("its context name", message + tcap_portion_number(said, TCAP_PORTION_NAME_START), tcap_portion_number(said, TCAP_PORTION_NAME_LENGTH));
+        print_octets("its context name", message + tcap_portion_number(said, TCAP_PORTION_NAME_START),
+                     tcap_portion_number(said, TCAP_PORTION_NAME_LENGTH));
     if (tcap_portion_number(said, TCAP_PORTION_INFORMATION_LENGTH) > 0)
         print_octets("its user information", message + tcap_portion_number(said, TCAP_PORTION_INFORMATION_START),
                      tcap_portion_number(said, TCAP_PORTION_INFORMATION_LENGTH));

@@ -596,9 +596,14 @@ static const struct { enum call call; unsigned place; size_t around; } takers[] 
 static void answer_11_name_and_information(void)
 {
     static const char *const names[] = { "06 01 2A", "06 07 04 00 00 01 00 01 03", NULL };
-    static const char *const no_names[] = { "06", "06 00", "06 02 2A", "06 01 2A 00", "06 01 2A 06 01 2A", "02 01 2A", "26 03 06 01 2A", "06 80 2A 00 00", "A1 03 06 01 2A", "BE 00", NULL };
+    static const char *const no_names[] = {
+        "06", "06 00", "06 02 2A", "06 01 2A 00", "06 01 2A 06 01 2A", "02 01 2A", "26 03 06 01 2A", "06 80 2A 00 00", "A1 03 06 01 2A", "BE 00",
+        NULL
+    };
     static const char *const informations[] = { "BE 00", "BE 02 05 00", "BE 80 05 00 00 00", "BE 04 05 00 05 00", NULL };
-    static const char *const no_informations[] = { "BE", "BE 01", "BE 02 05", "BE 02 05 01", "BE 00 BE 00", "BE 80 00", "9E 00", "30 00", "06 01 2A", NULL };
+    static const char *const no_informations[] = {
+        "BE", "BE 01", "BE 02 05", "BE 02 05 01", "BE 00 BE 00", "BE 80 00", "9E 00", "30 00", "06 01 2A", NULL
+    };
     for (size_t i = 0; i < TAKERS; i++) {
         for (const char *const *n = names; *n; n++)
             for (const char *const *u = informations; *u; u++) {
@@ -663,7 +668,8 @@ static void rejects_beside_a_portion(void)
         start();
         SHOWS("2 0 256 256 65535 0 0 1;13 0 256 256 2 0 0 0;", ask_receive(3, hex("62 05 48 01 07 6C 00")));
         AT;
-        expect(TCAP_DONE, 0, element(0x65, join(hex("48 04 00 00 00 00 49 01 07"), join(whole, list))), "", with(ask(CALL_CONTINUE, 3, 0), name, none));
+        expect(TCAP_DONE, 0, element(0x65, join(hex("48 04 00 00 00 00 49 01 07"), join(whole, list))), "",
+               with(ask(CALL_CONTINUE, 3, 0), name, none));
         if (octets == 234)
             WRITES("65 12 48 04 00 00 00 00 49 01 07 6C 07 A4 05 05 00 80 01 02", ask(CALL_CONTINUE, 3, 0));
     }
@@ -1081,7 +1087,8 @@ static const struct { const char *name; void (*run)(void); } tests[] = {
     T(turns_in_messages), T(answer_8_classes), T(answer_8_problems), T(answer_9), T(answer_9_after_a_result_not_last),
     T(answer_9_until_idle), T(answer_10), T(answer_11), T(answer_11_depth), T(answer_11_portion), T(answer_12),
     T(answer_12_reject_and_portion), T(portions_written), T(answer_11_name_and_information), T(answer_11_information_depth),
-    T(answer_12_with_a_portion), T(rejects_beside_a_portion), T(answer_14), T(portions_read), T(portions_opaque), T(portions_by_their_run), T(fresh_sizes), T(answer_13), T(fresh_on_any_octets), T(p1_to_p5), T(p6_to_p8),
+    T(answer_12_with_a_portion), T(rejects_beside_a_portion), T(answer_14), T(portions_read), T(portions_opaque),
+    T(portions_by_their_run), T(fresh_sizes), T(answer_13), T(fresh_on_any_octets), T(p1_to_p5), T(p6_to_p8),
     T(messages_of_every_kind), T(aborts_written), T(every_component_written), T(the_longest_message), T(rejects_that_fit),
     T(rows_of_a_message), T(rows_of_each_component), T(syntax_faults), T(a_ninth_reject), T(faults_free_the_place), T(dropped),
     T(the_most_rows), T(timers), T(parameter_found), T(every_answer),

@@ -167,7 +167,8 @@ static void measure_portion(void)
 {
     size_t most = 0;
     for (int form = 0; form < FORMS; form++) {
-        struct octets pdu = join(hex("80 02 07 80 A1 03 06 01 2A A2 03 02 01 00 A3 05 A1 03 02 01 00"), element(0xBE, parameter((enum form)form, 11)));
+        struct octets pdu = join(hex("80 02 07 80 A1 03 06 01 2A A2 03 02 01 00 A3 05 A1 03 02 01 00"),
+                                 element(0xBE, parameter((enum form)form, 11)));
         size_t octets;
         asked.first = element(0x6B, element(0x28, join(hex("06 07 00 11 86 05 01 01 01"), element(0xA0, element(0x61, pdu)))));
         octets = depth(the_portion);

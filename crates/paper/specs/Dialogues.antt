@@ -2,7 +2,7 @@
 -- knows neither its place nor another service. Assumes nothing.
 use mathlib.Core.Bool.{Bool, true, false}
 use mathlib.Core.List.{List, [], _∷_, _++_}
-use Prim.Native.Nat.{ℕ, zero, suc, _+_, _-_}
+use Prim.Native.Nat.{ℕ, zero, suc, _+_}
 use lib.ListN.{length, getD, take, replicate}
 use lib.Dec.{eqb, leb}
 use Rattle.laws.specs.If.{ifLt, ifEq, ifB}

@@ -1,6 +1,6 @@
 -- COMPONENTS AND MESSAGES WRITTEN (01, "Coding"): "We write definite, shortest lengths and copy given octets." Assumes nothing.
 use mathlib.Core.List.{List, [], _∷_, _++_}
-use Prim.Native.Nat.{ℕ, _+_, _-_, _/_, _%_}
+use Prim.Native.Nat.{ℕ, _+_, _/_, _%_}
 use lib.ListN.{length}
 use Rattle.laws.specs.If.{ifLt, ifEq}
 use Rattle.paper.specs.Problems.{kindOf, codeOf}
