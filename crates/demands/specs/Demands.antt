@@ -19,7 +19,7 @@ use Rattle.paper.specs.Shares.{gives, others, free}
 use Rattle.paper.specs.Messages.{messageOf, isSound, uniTag, beginTag}
 use Rattle.paper.specs.Rows.{rowBegin}
 use Rattle.paper.specs.Writing.{causeAbortOctets}
-use Rattle.paper.specs.Portions.{Spoken}
+use Rattle.paper.specs.Portions.{Spoken, partsIn, portionAt}
 use Rattle.paper.specs.Invocations.{sent, wait, invocationOf, stateOf}
 use Rattle.paper.specs.Asked.{oursOf}
 use Rattle.paper.specs.Dialogues.{Request, dialogueOpen, dialogueSent, dialogueReceived, dialogueActive, needs, refusal}
@@ -29,7 +29,7 @@ use Rattle.paper.specs.Calls.Call.{OnDialogue, Receive}
 use Rattle.paper.specs.Layout.{encode, view}
 use Rattle.paper.specs.Rules.{rules}
 use Rattle.paper.specs.Outcome.{Lent, Outcome, Gives, spacesOf, spacesFor, standing, given, shown, refusedBy, outcome, freshOutcome, one}
-use Rattle.paper.specs.Contents.{Wire, contentOf}
+use Rattle.paper.specs.Contents.{Content, Wire, contentOf}
 use Rattle.paper.specs.Ledger.{Entry, Ledger, newLedger, find, forService, aborting, endedIn}
 use Rattle.readback.specs.Contents.{nothing-content, cause-abort-fits, cause-abort-content}
 use Rattle.messages.specs.Bounds.{message-in}
@@ -46,6 +46,7 @@ use Rattle.ledger.specs.Steps.{fresh-agrees}
 use Rattle.ledger.specs.Homes.{Comes, rowFor, id-back, number-is, addressee-is, comes-home, comes-nowhere}
 use Rattle.demands.specs.Stands.{Stands, not-refused}
 use Rattle.demands.specs.Begins.{begin-step}
+use Rattle.demands.specs.Portions.{space-small, told-of}
 use Rattle.demands.specs.History.{Made, gave, after, begunOf, endedOf, AllFormed, Reached, history, told}
 use Rattle.demands.specs.Booked.{ledgerOf, messageOut, heard, first-written, booked, Followed, follows, formed-append}
 use Rattle.demands.specs.Replies.{begun-told, Wide, lentWith, gave-done, gave-rows, asks, open-answer, receive-answers, request-answered, unknown-answered, owned-not-5}
@@ -115,6 +116,18 @@ module _ (t g l : List ℕ) (fresh : freshOutcome t g l .answer ≡ 0) (ms : Lis
   message-fits m w =
       subst (λ (x : List ℕ). gave x m .length ≤ spacesFor (m .call) .space) (sym (agreed .table))
       (booked (agreed .to) (agreed .fine) ledger (agreed .agrees) m w .fits)
+
+  -- A HOST READS THE SAME: tcap_portion, asked at the run that the reading of the message gives, tells the kind, name, user information,
+  -- result, diagnostic and source that were put in, in the message's own octets
+  pub portion-is-said : (m : Made) → WellFormed (m .call) → (c : Content) → heard ledger (m .call) (gave (after start ms) m .answer) ≡ Wire.Holds c
+      → partsIn (messageOut (gave (after start ms) m))
+      (portionAt (messageOut (gave (after start ms) m)) (messageOf (messageOut (gave (after start ms) m)) .portion .start)
+      (messageOf (messageOut (gave (after start ms) m)) .portion .length))
+      ≡ c .spoken
+  portion-is-said m w c e =
+      told-of (messageOut (gave (after start ms) m)) c
+      (omega (arith, length-take (gave (after start ms) m .length) (gave (after start ms) m .lent .space), message-fits m w, space-small (m .call)))
+      (sent-is-said m w ∙ e)
 
   -- DEMAND 2, IDS COME HOME. A dialogue of the ledger stands under the ID that an open or a BEGIN row told
   entry-there : (d : ℕ) (e : Entry) → find (ledger .dialogues) d ≡ some e → Holds (placeAt (agreed .to) (placeOf d)) d e

@@ -9,4 +9,5 @@ pub mod Begins
 pub mod History
 pub mod Booked
 pub mod Replies
+pub mod Portions
 pub mod Demands

@@ -1,0 +1,67 @@
+-- WHAT A HOST READS OF A PORTION, asked at the run that the reading of its message gives (02 a). Assumes nothing.
+use mathlib.Core.Path.{_≡_, refl, sym, ap, _∙_}
+use mathlib.Core.List.{List}
+use Prim.Native.Nat.{ℕ, _≤_}
+use native.Mathlib.Omega.{arith}
+use lib.ListN.{length}
+use Rattle.laws.specs.If.{by-eq, by-b}
+use Rattle.paper.specs.declared.Run.{Run}
+use Rattle.paper.specs.Messages.{messageOf}
+use Rattle.paper.specs.Portions.{Spoken, partsIn, portionAt}
+use Rattle.paper.specs.Dialogues.{Request}
+use Rattle.paper.specs.Dialogues.Request.{Invoke, Result, Error, UserReject, Cancel, Begin, Continue, End, Prearranged, Abort, Unidirectional, Timeout, RejectTimeout, NoReaction}
+use Rattle.paper.specs.Calls.{Call}
+use Rattle.paper.specs.Calls.Call.{Open, OnDialogue, Receive}
+use Rattle.paper.specs.Outcome.{spacesOf, spacesFor}
+use Rattle.paper.specs.Contents.{Content, Wire, contentBy, messageIn, contentOf}
+use Rattle.messages.specs.Bounds.{message-in}
+use Rattle.portion.specs.InPlace.{told-in-place}
+
+-- no call needs more message space than 272 octets
+request-space : (r : Request) → spacesOf r .space ≤ 272
+request-space (Invoke id linked class op par) = omega arith
+request-space (Result tag id op par) = omega arith
+request-space (Error id err par) = omega arith
+request-space (UserReject id p) = omega arith
+request-space (Cancel id) = omega arith
+request-space (Begin name info) = omega arith
+request-space (Continue name info) = omega arith
+request-space (End name info) = omega arith
+request-space Prearranged = omega arith
+request-space (Abort given) = omega arith
+request-space (Unidirectional name info) = omega arith
+request-space (Timeout id) = omega arith
+request-space (RejectTimeout id) = omega arith
+request-space NoReaction = omega arith
+
+pub space-small : (c : Call) → spacesFor c .space ≤ 272
+space-small (Open service) = omega arith
+space-small (OnDialogue service dialogue r) = request-space r
+space-small (Receive service s) = omega arith
+
+-- octets that hold a message hold what their reading says
+nothing-no : (c : Content) → Wire.Nothing ≡ Wire.Holds c → ⊥
+nothing-no c e = absurd (let y : _≡_ {A = ℕ} 0 1 = cc in omega arith)
+
+garbled-no : (c : Content) → Wire.Garbled ≡ Wire.Holds c → ⊥
+garbled-no c e = absurd (let y : _≡_ {A = ℕ} 0 1 = cc in omega arith)
+
+held : (s : List ℕ) (c : Content) → contentOf s ≡ Wire.Holds c → Wire.Holds (contentBy s (messageOf s)) ≡ Wire.Holds c
+unfolding contentOf messageIn
+held s c e =
+    by-eq _ _ _ _ (sym e) (λ a q. absurd (nothing-no c (sym q)))
+    (λ a q.
+    by-eq _ _ _ _ q (λ b q. by-b _ _ _ q (λ d q. sym q) (λ d q. absurd (garbled-no c (sym q)))) (λ b q. absurd (garbled-no c (sym q))))
+
+abbrev spokenOf : Wire → Spoken
+spokenOf Wire.Nothing = Spoken.Silent
+spokenOf Wire.Garbled = Spoken.Silent
+spokenOf (Wire.Holds c) = c .spoken
+
+-- and the reader tells it, where the message is no longer than the space
+pub told-of : (s : List ℕ) (c : Content) → length s ≤ 272 → contentOf s ≡ Wire.Holds c
+    → partsIn s (portionAt s (messageOf s .portion .start) (messageOf s .portion .length)) ≡ c .spoken
+told-of s c h e =
+    let r : Run = messageOf s .portion in
+    let i = message-in s (messageOf s) refl .portion in
+    told-in-place s (r .start) (r .length) (omega (arith, i)) (omega (arith, i, h)) ∙ ap spokenOf (held s c e)
