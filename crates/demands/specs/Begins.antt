@@ -12,8 +12,8 @@ use Rattle.paper.specs.Messages.{messageOf, isSound, beginTag}
 use Rattle.paper.specs.Writing.{causeAbortOctets}
 use Rattle.paper.specs.Calls.{Table, mayBegin, lowestFree, assigned, octetsAt, faulted, shows, beginAt, beginReceived, soundReceived, received, receivedIf, step}
 use Rattle.paper.specs.Calls.Call.{Receive}
-use Rattle.messages.specs.Bounds.{message-in}
-use Rattle.ledger.specs.Read.{message-read}
+use Rattle.reading_messages.specs.Bounds.{message-in}
+use Rattle.demand_ledger.specs.Read.{message-read}
 
 not-assigned : (T : Table) (service : ℕ) (s : List ℕ) (m : Message) → m .destination .length ≡ 0 → assigned T service s m ≡ false
 unfolding assigned

@@ -11,12 +11,12 @@ use Rattle.paper.specs.Layout.{encode, view}
 use Rattle.paper.specs.Contents.{Wire, contentOf}
 use Rattle.paper.specs.Ledger.{Ledger, playedBy, played, said}
 use Rattle.paper.specs.Outcome.{Lent, Outcome, spacesFor, standing, given, shown, refusedBy, outcome}
-use Rattle.readback.specs.Contents.{nothing-content}
-use Rattle.facts.specs.Fine.{Fine}
-use Rattle.facts.specs.Whole.{view-encode}
-use Rattle.kept.specs.Steps.{WellFormed, step-kept}
-use Rattle.ledger.specs.Agrees.{Agrees}
-use Rattle.ledger.specs.Steps.{step-goes}
+use Rattle.demand_readback.specs.Contents.{nothing-content}
+use Rattle.table_laws.specs.Fine.{Fine}
+use Rattle.table_laws.specs.Whole.{view-encode}
+use Rattle.demand_kept.specs.Steps.{WellFormed, step-kept}
+use Rattle.demand_ledger.specs.Agrees.{Agrees}
+use Rattle.demand_ledger.specs.Steps.{step-goes}
 use Rattle.demands.specs.Stands.{stands}
 use Rattle.demands.specs.History.{Made, gave, after, AllFormed, told, told-step}
 

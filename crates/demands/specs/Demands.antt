@@ -31,19 +31,19 @@ use Rattle.paper.specs.Rules.{rules}
 use Rattle.paper.specs.Outcome.{Lent, Outcome, Gives, spacesOf, spacesFor, standing, given, shown, refusedBy, outcome, freshOutcome, one}
 use Rattle.paper.specs.Contents.{Content, Wire, contentOf}
 use Rattle.paper.specs.Ledger.{Entry, Ledger, newLedger, find, forService, aborting, endedIn}
-use Rattle.readback.specs.Contents.{nothing-content, cause-abort-fits, cause-abort-content}
-use Rattle.messages.specs.Bounds.{message-in}
-use Rattle.facts.specs.Fine.{Octets}
-use Rattle.facts.specs.Whole.{view-encode}
-use Rattle.facts.specs.Ready.{Ready}
-use Rattle.kept.specs.Steps.{WellFormed}
-use Rattle.kept.specs.Tables.{outcome-ready, ready-rules}
-use Rattle.shares.specs.Share.{Shares, Sound, below-given, refused-at-limit, refused-full, refused-why}
-use Rattle.kept.specs.Shared.{shares as fine-shares, sound as fine-sound}
-use Rattle.kept.specs.Fresh.{fresh-fine, fresh-none}
-use Rattle.ledger.specs.Agrees.{Holds, At, Agrees, holds-owns, unknown-not-owned}
-use Rattle.ledger.specs.Steps.{fresh-agrees}
-use Rattle.ledger.specs.Homes.{Comes, rowFor, id-back, number-is, addressee-is, comes-home, comes-nowhere}
+use Rattle.demand_readback.specs.Contents.{nothing-content, cause-abort-fits, cause-abort-content}
+use Rattle.reading_messages.specs.Bounds.{message-in}
+use Rattle.table_laws.specs.Fine.{Octets}
+use Rattle.table_laws.specs.Whole.{view-encode}
+use Rattle.table_laws.specs.Ready.{Ready}
+use Rattle.demand_kept.specs.Steps.{WellFormed}
+use Rattle.demand_kept.specs.Tables.{outcome-ready, ready-rules}
+use Rattle.table_shares.specs.Share.{Shares, Sound, below-given, refused-at-limit, refused-full, refused-why}
+use Rattle.demand_kept.specs.Shared.{shares as fine-shares, sound as fine-sound}
+use Rattle.demand_kept.specs.Fresh.{fresh-fine, fresh-none}
+use Rattle.demand_ledger.specs.Agrees.{Holds, At, Agrees, holds-owns, unknown-not-owned}
+use Rattle.demand_ledger.specs.Steps.{fresh-agrees}
+use Rattle.demand_ledger.specs.Homes.{Comes, rowFor, id-back, number-is, addressee-is, comes-home, comes-nowhere}
 use Rattle.demands.specs.Stands.{Stands, not-refused}
 use Rattle.demands.specs.Begins.{begin-step}
 use Rattle.demands.specs.Portions.{space-small, told-of}
@@ -96,7 +96,7 @@ module _ (t g l : List ℕ) (fresh : freshOutcome t g l .answer ≡ 0) (ms : Lis
       subst (λ (x : List ℕ). Followed x (newLedger g l) ns) (sym (b .table))
       (follows (freshTable g l) (fresh-fine g l (b .guarantees) (b .limits) (b .fit)) (newLedger g l) (fresh-agrees g l) ns w)
 
-  -- the ledger agrees with the table that the history left: the one relation between the two (crates/ledger/specs/Agrees.antt)
+  -- the ledger agrees with the table that the history left: the one relation between the two (crates/demand_ledger/specs/Agrees.antt)
   pub agreed : Followed start (newLedger g l) ms
   agreed = booked-start ms o
 

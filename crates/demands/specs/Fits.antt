@@ -20,15 +20,15 @@ use Rattle.paper.specs.Dialogues.{Place, Request, refusal, does, request, unles
 use Rattle.paper.specs.Dialogues.Request.{Invoke, Result, Error, UserReject, Cancel, Begin, Continue, End, Prearranged, Abort, Unidirectional, Timeout, RejectTimeout, NoReaction}
 use Rattle.paper.specs.Calls.{Table, Call, Out, stored, requested, opened, owns, mayBegin, lowestFree, destinationNumber, itemsOf, shownRows, faultedAt, faulted, uniReceived, beginAt, beginReceived, continueReceived, endReceived, abortReceived, toDialogue, soundReceived, received, receivedIf, step, placeAt}
 use Rattle.paper.specs.Calls.Call.{Open, OnDialogue, Receive}
-use Rattle.messages.specs.Bounds.{MessageIn, message-in}
-use Rattle.facts.specs.Fine.{Octets, Fine}
-use Rattle.facts.specs.Owners.{owned-is}
-use Rattle.kept.specs.Leaves.{whether-eq, whether-lt, whether-b}
-use Rattle.kept.specs.Shared.{lowest-there}
-use Rattle.kept.specs.Steps.{WellFormed}
+use Rattle.reading_messages.specs.Bounds.{MessageIn, message-in}
+use Rattle.table_laws.specs.Fine.{Octets, Fine}
+use Rattle.table_laws.specs.Owners.{owned-is}
+use Rattle.demand_kept.specs.Leaves.{whether-eq, whether-lt, whether-b}
+use Rattle.demand_kept.specs.Shared.{lowest-there}
+use Rattle.demand_kept.specs.Steps.{WellFormed}
 use Rattle.demands.specs.Rows.{SmallRow, AllSmall, components-few, rows-long}
 use Rattle.demands.specs.Small.{none-small, more-small, dialogue-small, cancel-small, AllLie, components-lie, components-small}
-use Rattle.ledger.specs.Read.{message-read}
+use Rattle.demand_ledger.specs.Read.{message-read}
 
 pub record Fit (rs : List Row) : Type 0 where
   pub few : length rs ≤ 128

@@ -15,11 +15,11 @@ use Rattle.paper.specs.Calls.{Table, Call, Out, placeAt, held, stored, requeste
 use Rattle.paper.specs.Calls.Call.{Open, OnDialogue, Receive}
 use Rattle.paper.specs.Layout.{encode, view}
 use Rattle.paper.specs.Outcome.{Lent, Outcome, spacesOf, spacesFor, standing, given, shown, refusedBy, outcome}
-use Rattle.facts.specs.Fine.{Fine}
-use Rattle.facts.specs.Whole.{view-encode}
-use Rattle.kept.specs.Leaves.{whether-lt, whether-b}
+use Rattle.table_laws.specs.Fine.{Fine}
+use Rattle.table_laws.specs.Whole.{view-encode}
+use Rattle.demand_kept.specs.Leaves.{whether-lt, whether-b}
 use Rattle.paper.specs.Counting.{Notice, toldBy, serviceOf, begunBy, endedBy}
-use Rattle.kept.specs.Steps.{WellFormed, Left, step-left, step-counted}
+use Rattle.demand_kept.specs.Steps.{WellFormed, Left, step-left, step-counted}
 use Rattle.demands.specs.Rows.{rows-back}
 use Rattle.demands.specs.Fits.{Fit, step-fit}
 use Rattle.demands.specs.Stands.{stands}

@@ -14,8 +14,8 @@ use Rattle.paper.specs.Calls.{Call}
 use Rattle.paper.specs.Calls.Call.{Open, OnDialogue, Receive}
 use Rattle.paper.specs.Outcome.{spacesOf, spacesFor}
 use Rattle.paper.specs.Contents.{Content, Wire, contentBy, messageIn, contentOf}
-use Rattle.messages.specs.Bounds.{message-in}
-use Rattle.portion.specs.InPlace.{told-in-place}
+use Rattle.reading_messages.specs.Bounds.{message-in}
+use Rattle.reading_portion.specs.InPlace.{told-in-place}
 
 -- no call needs more message space than 272 octets
 request-space : (r : Request) → spacesOf r .space ≤ 272

@@ -16,10 +16,10 @@ use Rattle.paper.specs.Calls.Call.{Open, OnDialogue, Receive}
 use Rattle.paper.specs.Counting.{Notice}
 use Rattle.paper.specs.Layout.{encode, view}
 use Rattle.paper.specs.Outcome.{Lent, Outcome, standing, spacesFor, given, shown, outcome, freshAnswer, freshOutcome}
-use Rattle.facts.specs.Fine.{Fine}
-use Rattle.facts.specs.Whole.{view-encode}
-use Rattle.facts.specs.Ready.{encode-stands}
-use Rattle.kept.specs.Steps.{WellFormed, does-answers}
+use Rattle.table_laws.specs.Fine.{Fine}
+use Rattle.table_laws.specs.Whole.{view-encode}
+use Rattle.table_laws.specs.Ready.{encode-stands}
+use Rattle.demand_kept.specs.Steps.{WellFormed, does-answers}
 use Rattle.demands.specs.Tails.{received-quiet}
 use Rattle.demands.specs.Applies.{among, casesOf, applies}
 use Rattle.demands.specs.Lowest.{lowest}

@@ -16,8 +16,8 @@ use Rattle.paper.specs.declared.Row.{Row}
 use Rattle.paper.specs.Components.{Item, items, components, componentAt, nextStart, goOn}
 use Rattle.paper.specs.Invocations.{act}
 use Rattle.paper.specs.Rows.{rowOctets, rowsOctets, componentRows, fourAt, rowAt, rowsAt}
-use Rattle.components.specs.Bounds.{component-in}
-use Rattle.facts.specs.Fine.{Octets}
+use Rattle.reading_components.specs.Bounds.{component-in}
+use Rattle.table_laws.specs.Fine.{Octets}
 
 -- A SOUND COMPONENT HAS FIVE OCTETS, and a fault ends the reading: so 512 octets hold at most 103
 module _ (s : List ℕ) (octets : Octets s) (lim : ℕ) where

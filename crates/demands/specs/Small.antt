@@ -16,11 +16,11 @@ use Rattle.paper.specs.declared.Row.{Row}
 use Rattle.paper.specs.Components.{Item, items, components, componentAt, nextStart, goOn}
 use Rattle.paper.specs.Invocations.{rejected, answerProblem, answersSent, answers, invokes, rejects, faultyReject, faults, act}
 use Rattle.paper.specs.Rows.{signed, startOf, extentOf, dialogueRow, cancelRow, componentRow, componentRows, rowBy}
-use Rattle.components.specs.Bounds.{ComponentIn, component-in}
-use Rattle.messages.specs.Bounds.{RunIn}
-use Rattle.facts.specs.Fine.{Octets}
-use Rattle.kept.specs.Leaves.{whether-eq, whether-lt, whether-b}
-use Rattle.kept.specs.Counted.{act-kind}
+use Rattle.reading_components.specs.Bounds.{ComponentIn, component-in}
+use Rattle.reading_messages.specs.Bounds.{RunIn}
+use Rattle.table_laws.specs.Fine.{Octets}
+use Rattle.demand_kept.specs.Leaves.{whether-eq, whether-lt, whether-b}
+use Rattle.demand_kept.specs.Counted.{act-kind}
 use Rattle.demands.specs.Rows.{SmallRow, AllSmall}
 
 pub none-small : AllSmall []

@@ -8,8 +8,8 @@ use Rattle.laws.specs.If.{eq, ge, yes, was-eq, was-ge, was-yes}
 use Rattle.paper.specs.Layout.{tableSize}
 use Rattle.paper.specs.Rules.{rules}
 use Rattle.paper.specs.Outcome.{Lent, Spaces, standing}
-use Rattle.facts.specs.Fine.{Octets}
-use Rattle.facts.specs.Ready.{Ready, ready}
+use Rattle.table_laws.specs.Fine.{Octets}
+use Rattle.table_laws.specs.Ready.{Ready, ready}
 
 pub record Stands (l : Lent) (n : Spaces) : Type 0 where
   pub long : length (l .table) ≡ tableSize

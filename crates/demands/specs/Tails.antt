@@ -15,8 +15,8 @@ use Rattle.paper.specs.Calls.{Table, Call, Out, faultedAt, faulted, uniReceived
 use Rattle.paper.specs.Calls.Call.{Receive}
 use Rattle.paper.specs.Layout.{encode, view}
 use Rattle.paper.specs.Outcome.{Lent, Outcome, spacesFor, standing, given, refusedBy, shown, outcome, freshOutcome}
-use Rattle.facts.specs.Fine.{Octets}
-use Rattle.kept.specs.Leaves.{whether-eq, whether-lt, whether-b}
+use Rattle.table_laws.specs.Fine.{Octets}
+use Rattle.demand_kept.specs.Leaves.{whether-eq, whether-lt, whether-b}
 use Rattle.demands.specs.Rows.{octets-long}
 use Rattle.demands.specs.Stands.{stands-ready}
 

@@ -1,5 +1,5 @@
 // THE CALLS, as a C host sees them (include/tcap.h): each hands on to the crate that has it.
-use entry::Reply;
+use call_entry::Reply;
 ghost use mathlib.Core.Path.{_≡_};
 ghost use mathlib.Core.List.{[]};
 ghost use Prim.Native.Nat.{_+_, _≤_};
@@ -16,21 +16,21 @@ ghost use Rattle.paper.specs.Readers.{parameterAt};
 pub extern "C" fn tcap_table_size() -> usize
     ensures { λ r. ⌜ r ≡ tableSize ⌝ }
 {
-    opening::table_size()
+    call_open::table_size()
 }
 
 #[no_mangle]
 pub extern "C" fn tcap_fresh(table: &mut [u8], guarantees: &[u8], limits: &[u8]) -> Reply
     ensures { λ r. ⌜ Gives (freshOutcome (now (table .entry)) (now (guarantees .entry)) (now (limits .entry))) (r .answer) (r .rows) (r .length) (r .dialogue) (record { table = now (table .exit); rows = []; space = [] }) ⌝ }
 {
-    opening::fresh(table, guarantees, limits)
+    call_open::fresh(table, guarantees, limits)
 }
 
 #[no_mangle]
 pub extern "C" fn tcap_open(table: &mut [u8], service: u32) -> Reply
     ensures { λ r. ⌜ Gives (outcome (record { table = now (table .entry); rows = []; space = [] }) (Open service)) (r .answer) (r .rows) (r .length) (r .dialogue) (record { table = now (table .exit); rows = []; space = [] }) ⌝ }
 {
-    opening::open(table, service)
+    call_open::open(table, service)
 }
 
 #[no_mangle]
@@ -45,8 +45,8 @@ pub extern "C" fn tcap_invoke(
 ) -> Reply
     ensures { λ r. ⌜ Gives (outcome (record { table = now (table .entry); rows = []; space = [] }) (OnDialogue service dialogue (Invoke (octetOf id) noID class (now (operation .entry)) (now (parameter .entry))))) (r .answer) (r .rows) (r .length) (r .dialogue) (record { table = now (table .exit); rows = []; space = [] }) ⌝ }
 {
-    let octet = entry::octet_of(id);
-    passing::invoke(
+    let octet = call_entry::octet_of(id);
+    call_pass::invoke(
         table,
         service,
         dialogue,
@@ -71,9 +71,9 @@ pub extern "C" fn tcap_invoke_linked(
 ) -> Reply
     ensures { λ r. ⌜ Gives (outcome (record { table = now (table .entry); rows = []; space = [] }) (OnDialogue service dialogue (Invoke (octetOf id) (octetOf linked) class (now (operation .entry)) (now (parameter .entry))))) (r .answer) (r .rows) (r .length) (r .dialogue) (record { table = now (table .exit); rows = []; space = [] }) ⌝ }
 {
-    let octet = entry::octet_of(id);
-    let other = entry::octet_of(linked);
-    passing::invoke(
+    let octet = call_entry::octet_of(id);
+    let other = call_entry::octet_of(linked);
+    call_pass::invoke(
         table,
         service,
         dialogue,
@@ -96,8 +96,8 @@ pub extern "C" fn tcap_result_last(
 ) -> Reply
     ensures { λ r. ⌜ Gives (outcome (record { table = now (table .entry); rows = []; space = [] }) (OnDialogue service dialogue (Result lastTag (octetOf id) (now (operation .entry)) (now (parameter .entry))))) (r .answer) (r .rows) (r .length) (r .dialogue) (record { table = now (table .exit); rows = []; space = [] }) ⌝ }
 {
-    let octet = entry::octet_of(id);
-    passing::result(table, service, dialogue, 162, octet, operation, parameter)
+    let octet = call_entry::octet_of(id);
+    call_pass::result(table, service, dialogue, 162, octet, operation, parameter)
 }
 
 #[no_mangle]
@@ -111,8 +111,8 @@ pub extern "C" fn tcap_result_not_last(
 ) -> Reply
     ensures { λ r. ⌜ Gives (outcome (record { table = now (table .entry); rows = []; space = [] }) (OnDialogue service dialogue (Result notLastTag (octetOf id) (now (operation .entry)) (now (parameter .entry))))) (r .answer) (r .rows) (r .length) (r .dialogue) (record { table = now (table .exit); rows = []; space = [] }) ⌝ }
 {
-    let octet = entry::octet_of(id);
-    passing::result(table, service, dialogue, 167, octet, operation, parameter)
+    let octet = call_entry::octet_of(id);
+    call_pass::result(table, service, dialogue, 167, octet, operation, parameter)
 }
 
 #[no_mangle]
@@ -126,8 +126,8 @@ pub extern "C" fn tcap_error(
 ) -> Reply
     ensures { λ r. ⌜ Gives (outcome (record { table = now (table .entry); rows = []; space = [] }) (OnDialogue service dialogue (Error (octetOf id) (now (error .entry)) (now (parameter .entry))))) (r .answer) (r .rows) (r .length) (r .dialogue) (record { table = now (table .exit); rows = []; space = [] }) ⌝ }
 {
-    let octet = entry::octet_of(id);
-    passing::error(table, service, dialogue, octet, error, parameter)
+    let octet = call_entry::octet_of(id);
+    call_pass::error(table, service, dialogue, octet, error, parameter)
 }
 
 #[no_mangle]
@@ -140,16 +140,16 @@ pub extern "C" fn tcap_reject(
 ) -> Reply
     ensures { λ r. ⌜ Gives (outcome (record { table = now (table .entry); rows = []; space = [] }) (OnDialogue service dialogue (UserReject (octetOf id) problem))) (r .answer) (r .rows) (r .length) (r .dialogue) (record { table = now (table .exit); rows = []; space = [] }) ⌝ }
 {
-    let octet = entry::octet_of(id);
-    passing::reject(table, service, dialogue, octet, problem)
+    let octet = call_entry::octet_of(id);
+    call_pass::reject(table, service, dialogue, octet, problem)
 }
 
 #[no_mangle]
 pub extern "C" fn tcap_cancel(table: &mut [u8], service: u32, dialogue: u32, id: i8) -> Reply
     ensures { λ r. ⌜ Gives (outcome (record { table = now (table .entry); rows = []; space = [] }) (OnDialogue service dialogue (Cancel (octetOf id)))) (r .answer) (r .rows) (r .length) (r .dialogue) (record { table = now (table .exit); rows = []; space = [] }) ⌝ }
 {
-    let octet = entry::octet_of(id);
-    timing::cancel(table, service, dialogue, octet)
+    let octet = call_entry::octet_of(id);
+    call_release::cancel(table, service, dialogue, octet)
 }
 
 #[no_mangle]
@@ -163,7 +163,7 @@ pub extern "C" fn tcap_begin(
 ) -> Reply
     ensures { λ r. ⌜ Gives (outcome (record { table = now (table .entry); rows = []; space = now (space .entry) }) (OnDialogue service dialogue (Begin (now (name .entry)) (now (information .entry))))) (r .answer) (r .rows) (r .length) (r .dialogue) (record { table = now (table .exit); rows = []; space = now (space .exit) }) ⌝ }
 {
-    sending::send_begin(table, service, dialogue, name, information, space)
+    call_send::send_begin(table, service, dialogue, name, information, space)
 }
 
 #[no_mangle]
@@ -177,7 +177,7 @@ pub extern "C" fn tcap_continue(
 ) -> Reply
     ensures { λ r. ⌜ Gives (outcome (record { table = now (table .entry); rows = []; space = now (space .entry) }) (OnDialogue service dialogue (Continue (now (name .entry)) (now (information .entry))))) (r .answer) (r .rows) (r .length) (r .dialogue) (record { table = now (table .exit); rows = []; space = now (space .exit) }) ⌝ }
 {
-    sending::send_continue(table, service, dialogue, name, information, space)
+    call_send::send_continue(table, service, dialogue, name, information, space)
 }
 
 #[no_mangle]
@@ -191,14 +191,14 @@ pub extern "C" fn tcap_end(
 ) -> Reply
     ensures { λ r. ⌜ Gives (outcome (record { table = now (table .entry); rows = []; space = now (space .entry) }) (OnDialogue service dialogue (End (now (name .entry)) (now (information .entry))))) (r .answer) (r .rows) (r .length) (r .dialogue) (record { table = now (table .exit); rows = []; space = now (space .exit) }) ⌝ }
 {
-    sending::send_end(table, service, dialogue, name, information, space)
+    call_send::send_end(table, service, dialogue, name, information, space)
 }
 
 #[no_mangle]
 pub extern "C" fn tcap_end_prearranged(table: &mut [u8], service: u32, dialogue: u32) -> Reply
     ensures { λ r. ⌜ Gives (outcome (record { table = now (table .entry); rows = []; space = [] }) (OnDialogue service dialogue Prearranged)) (r .answer) (r .rows) (r .length) (r .dialogue) (record { table = now (table .exit); rows = []; space = [] }) ⌝ }
 {
-    timing::end_prearranged(table, service, dialogue)
+    call_release::end_prearranged(table, service, dialogue)
 }
 
 #[no_mangle]
@@ -211,7 +211,7 @@ pub extern "C" fn tcap_abort(
 ) -> Reply
     ensures { λ r. ⌜ Gives (outcome (record { table = now (table .entry); rows = []; space = now (space .entry) }) (OnDialogue service dialogue (Abort (now (portion .entry))))) (r .answer) (r .rows) (r .length) (r .dialogue) (record { table = now (table .exit); rows = []; space = now (space .exit) }) ⌝ }
 {
-    sending::send_abort(table, service, dialogue, portion, space)
+    call_send::send_abort(table, service, dialogue, portion, space)
 }
 
 #[no_mangle]
@@ -225,7 +225,7 @@ pub extern "C" fn tcap_unidirectional(
 ) -> Reply
     ensures { λ r. ⌜ Gives (outcome (record { table = now (table .entry); rows = []; space = now (space .entry) }) (OnDialogue service dialogue (Unidirectional (now (name .entry)) (now (information .entry))))) (r .answer) (r .rows) (r .length) (r .dialogue) (record { table = now (table .exit); rows = []; space = now (space .exit) }) ⌝ }
 {
-    sending::send_unidirectional(table, service, dialogue, name, information, space)
+    call_send::send_unidirectional(table, service, dialogue, name, information, space)
 }
 
 #[no_mangle]
@@ -238,7 +238,7 @@ pub extern "C" fn tcap_receive(
 ) -> Reply
     ensures { λ r. ⌜ Gives (outcome (record { table = now (table .entry); rows = now (rows .entry); space = now (space .entry) }) (Receive service (now (message .entry)))) (r .answer) (r .rows) (r .length) (r .dialogue) (record { table = now (table .exit); rows = now (rows .exit); space = now (space .exit) }) ⌝ }
 {
-    incoming::receive(table, service, message, rows, space)
+    call_receive::receive(table, service, message, rows, space)
 }
 
 #[no_mangle]
@@ -251,8 +251,8 @@ pub extern "C" fn tcap_timeout(
 ) -> Reply
     ensures { λ r. ⌜ Gives (outcome (record { table = now (table .entry); rows = now (rows .entry); space = [] }) (OnDialogue service dialogue (Timeout (octetOf id)))) (r .answer) (r .rows) (r .length) (r .dialogue) (record { table = now (table .exit); rows = now (rows .exit); space = [] }) ⌝ }
 {
-    let octet = entry::octet_of(id);
-    timing::timeout(table, service, dialogue, octet, rows)
+    let octet = call_entry::octet_of(id);
+    call_release::timeout(table, service, dialogue, octet, rows)
 }
 
 #[no_mangle]
@@ -264,8 +264,8 @@ pub extern "C" fn tcap_reject_timeout(
 ) -> Reply
     ensures { λ r. ⌜ Gives (outcome (record { table = now (table .entry); rows = []; space = [] }) (OnDialogue service dialogue (RejectTimeout (octetOf id)))) (r .answer) (r .rows) (r .length) (r .dialogue) (record { table = now (table .exit); rows = []; space = [] }) ⌝ }
 {
-    let octet = entry::octet_of(id);
-    timing::reject_timeout(table, service, dialogue, octet)
+    let octet = call_entry::octet_of(id);
+    call_release::reject_timeout(table, service, dialogue, octet)
 }
 
 #[no_mangle]
@@ -277,7 +277,7 @@ pub extern "C" fn tcap_no_reaction(
 ) -> Reply
     ensures { λ r. ⌜ Gives (outcome (record { table = now (table .entry); rows = now (rows .entry); space = [] }) (OnDialogue service dialogue NoReaction)) (r .answer) (r .rows) (r .length) (r .dialogue) (record { table = now (table .exit); rows = now (rows .exit); space = [] }) ⌝ }
 {
-    timing::no_reaction(table, service, dialogue, rows)
+    call_release::no_reaction(table, service, dialogue, rows)
 }
 
 // Where a component's parameter stands in the message; 0, 0 for none.
@@ -292,7 +292,7 @@ pub extern "C" fn tcap_parameter(message: &[u8], start: usize, len: usize) -> Sp
     ensures is { λ r. ⌜ (r .start ≡ parameterAt (now (message .entry)) start len .start) × (r .length ≡ parameterAt (now (message .entry)) start len .length) ⌝ }
     ensures within { λ r. ⌜ r .start + r .length ≤ length (now (message .entry)) ⌝ }
 {
-    let p = parameter::parameter_at(message, start, len);
+    let p = reading_parameter::parameter_at(message, start, len);
     Span {
         start: p.start,
         length: p.length,
@@ -308,5 +308,5 @@ pub extern "C" fn tcap_portion(
 ) -> Reply
     ensures { λ r. ⌜ Gives (portionOutcome (now (rows .entry)) (now (message .entry)) start length) (r .answer) (r .rows) (r .length) (r .dialogue) (record { table = []; rows = now (rows .exit); space = [] }) ⌝ }
 {
-    asking::portion(message, start, length, rows)
+    call_portion::portion(message, start, length, rows)
 }

@@ -51,11 +51,11 @@ pub fn finish(octets: &[u8], l: Line)
     requires { ⌜ LineIn (length (now octets)) l ⌝ }
 {
     if l.bad {
-        text::bad(l.number, b' ');
+        program_text::bad(l.number, b' ');
         return;
     }
     if l.digit < 16 {
-        text::bad(l.number, b' ');
+        program_text::bad(l.number, b' ');
         return;
     }
     let n = l.count;
@@ -81,7 +81,7 @@ fn taken(octets: &mut [u8], l: Line, x: u8) -> Line
         l.comment = true;
         return l;
     }
-    let d = text::digit_of(x);
+    let d = program_text::digit_of(x);
     if d < 16 {
         return with_digit(octets, l, d);
     }

@@ -1,7 +1,7 @@
 // A message and its components as text: the numbers of a component as in a row (01, "Rows").
 ghost use Prim.Native.Nat.{_+_, _<_, _≤_};
 ghost use lib.ListN.{length};
-ghost use Rattle.messages.specs.Bounds.{MessageIn};
+ghost use Rattle.reading_messages.specs.Bounds.{MessageIn};
 use paper::Component;
 use paper::Message;
 use paper::Run;
@@ -10,10 +10,10 @@ fn run(out: &mut [u8], at: usize, s: &[u8], r: Run) -> usize
     requires { ⌜ r .start + r .length ≤ length (now s) ⌝ }
     ensures { λ r. ⌜ r ≤ length (now (out .exit)) ⌝ }
 {
-    let a = text::put(out, at, b' ');
+    let a = program_text::put(out, at, b' ');
     let from = r.start;
     let to = from + r.length;
-    text::octets(out, a, &s[from..to])
+    program_text::octets(out, a, &s[from..to])
 }
 
 // How it is read: sound, dropped for its form, or at fault with a P-Abort cause.
@@ -22,13 +22,13 @@ fn form(out: &mut [u8], at: usize, fault: u8) -> usize
     ensures { λ r. ⌜ r ≤ length (now (out .exit)) ⌝ }
 {
     if fault == 255 {
-        return text::word(out, at, b" sound");
+        return program_text::word(out, at, b" sound");
     }
     if fault == 254 {
-        return text::word(out, at, b" dropped");
+        return program_text::word(out, at, b" dropped");
     }
-    let a = text::word(out, at, b" fault-");
-    text::decimal(out, a, fault as u64)
+    let a = program_text::word(out, at, b" fault-");
+    program_text::decimal(out, a, fault as u64)
 }
 
 fn cause(out: &mut [u8], at: usize, code: u32) -> usize
@@ -36,18 +36,18 @@ fn cause(out: &mut [u8], at: usize, code: u32) -> usize
     ensures { λ r. ⌜ r ≤ length (now (out .exit)) ⌝ }
 {
     if code == 65535 {
-        return text::word(out, at, b" -");
+        return program_text::word(out, at, b" -");
     }
-    text::number(out, at, code as u64)
+    program_text::number(out, at, code as u64)
 }
 
 // Line number, type and form.
 fn type_and_form(out: &mut [u8], line: u64, tag: u8, fault: u8) -> usize
     ensures { λ r. ⌜ r ≤ length (now (out .exit)) ⌝ }
 {
-    let a = text::decimal(out, 0, line);
-    let b = text::put(out, a, b' ');
-    let c = text::octet(out, b, tag);
+    let a = program_text::decimal(out, 0, line);
+    let b = program_text::put(out, a, b' ');
+    let c = program_text::octet(out, b, tag);
     form(out, c, fault)
 }
 
@@ -62,10 +62,10 @@ fn message_line(out: &mut [u8], line: u64, s: &[u8], m: Message) -> usize
     let a = type_and_form(out, line, m.tag, m.fault);
     let b = run(out, a, s, origin);
     let c = run(out, b, s, destination);
-    let d = text::number(out, c, portion.start as u64);
-    let e = text::number(out, d, portion.length as u64);
+    let d = program_text::number(out, c, portion.start as u64);
+    let e = program_text::number(out, d, portion.length as u64);
     let f = cause(out, e, m.cause);
-    text::put(out, f, b'\n')
+    program_text::put(out, f, b'\n')
 }
 
 // Its general problem's code, start and length, 0 and 0 without a frame.
@@ -73,12 +73,12 @@ fn fault_line(out: &mut [u8], at: usize, c: Component) -> usize
     requires { ⌜ (at < 65536) × (c .stop < 65536) ⌝ }
     ensures { λ r. ⌜ r ≤ length (now (out .exit)) ⌝ }
 {
-    let r = rows::component_row(c, 0, at, 0, c.problem);
-    let a = text::word(out, 0, b"fault");
-    let b = text::number(out, a, c.fault as u64);
-    let d = text::number(out, b, r.start as u64);
-    let e = text::number(out, d, r.length as u64);
-    text::put(out, e, b'\n')
+    let r = writing_rows::component_row(c, 0, at, 0, c.problem);
+    let a = program_text::word(out, 0, b"fault");
+    let b = program_text::number(out, a, c.fault as u64);
+    let d = program_text::number(out, b, r.start as u64);
+    let e = program_text::number(out, d, r.length as u64);
+    program_text::put(out, e, b'\n')
 }
 
 // A syntax fault at a position, where the components end at lim.
@@ -88,10 +88,10 @@ fn fault(s: &[u8], lim: usize, at: usize)
     if s.len() < lim {
         return;
     }
-    let c = components::component_at(s, lim, at);
+    let c = reading_components::component_at(s, lim, at);
     let mut out = [0u8; 256];
     let n = fault_line(&mut out, at, c);
-    text::say(&out, n);
+    program_text::say(&out, n);
 }
 
 // Those that the reader gives, and what stands where it ended: nothing after the last one, else a syntax fault. An empty 6C is one.
@@ -101,7 +101,7 @@ fn components(s: &[u8], m: Message)
     if m.fault != 255 || m.from == 0 {
         return;
     }
-    let l = listing::components(s, true);
+    let l = program_listing::components(s, true);
     if l.last == 0 {
         fault(s, m.to, m.from);
         return;
@@ -116,9 +116,9 @@ fn components(s: &[u8], m: Message)
 // One of 0 or over 512 octets.
 fn refused(line: u64) {
     let mut out = [0u8; 256];
-    let a = text::decimal(&mut out, 0, line);
-    let n = text::word(&mut out, a, b" - refused - - 0 0 -\n");
-    text::say(&out, n);
+    let a = program_text::decimal(&mut out, 0, line);
+    let n = program_text::word(&mut out, a, b" - refused - - 0 0 -\n");
+    program_text::say(&out, n);
 }
 
 pub fn message(line: u64, s: &[u8]) {
@@ -126,9 +126,9 @@ pub fn message(line: u64, s: &[u8]) {
         refused(line);
         return;
     }
-    let m = messages::message_of(s);
+    let m = reading_messages::message_of(s);
     let mut out = [0u8; 256];
     let n = message_line(&mut out, line, s, m);
-    text::say(&out, n);
+    program_text::say(&out, n);
     components(s, m);
 }

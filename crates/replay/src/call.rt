@@ -2,14 +2,14 @@
 ghost use Prim.Native.Nat.{_<_};
 use crate::asked;
 use crate::show;
-use entry::Reply;
-use fields::Pair;
+use call_entry::Reply;
+use program_fields::Pair;
 
 // The answer that no call gives: a line that cannot be read.
 const UNREAD: u32 = 255;
 
 fn unread() -> Reply {
-    entry::refused(UNREAD)
+    call_entry::refused(UNREAD)
 }
 
 fn fresh(table: &mut [u8], line: &[u8]) -> Reply {
@@ -17,7 +17,7 @@ fn fresh(table: &mut [u8], line: &[u8]) -> Reply {
     let mut limits = [0u8; 16];
     if asked::shares(asked::part(line, 1), &mut guarantees) {
         if asked::shares(asked::part(line, 2), &mut limits) {
-            return opening::fresh(table, &guarantees, &limits);
+            return call_open::fresh(table, &guarantees, &limits);
         }
     }
     unread()
@@ -27,7 +27,7 @@ fn open_for(table: &mut [u8], line: &[u8]) -> Reply {
     let s = asked::number(line, 1);
     if s.ok {
         if asked::verb(line, b"open") {
-            return opening::open(table, s.value);
+            return call_open::open(table, s.value);
         }
     }
     unread()
@@ -36,9 +36,9 @@ fn open_for(table: &mut [u8], line: &[u8]) -> Reply {
 fn receive(table: &mut [u8], rows: &mut [u8], space: &mut [u8], line: &mut [u8]) -> Reply {
     let s = asked::number(line, 1);
     let f = asked::field(line, 2);
-    let m = fields::octets_or_none(line, f);
+    let m = program_fields::octets_or_none(line, f);
     if s.ok && m.ok {
-        return incoming::receive(table, s.value, fields::cut(line, m), rows, space);
+        return call_receive::receive(table, s.value, program_fields::cut(line, m), rows, space);
     }
     unread()
 }
@@ -50,10 +50,10 @@ fn on_dialogue(table: &mut [u8], rows: &mut [u8], line: &[u8]) -> Reply {
     let dialogue = n.dialogue;
     if n.ok {
         if asked::verb(line, b"prearranged") {
-            return timing::end_prearranged(table, service, dialogue);
+            return call_release::end_prearranged(table, service, dialogue);
         }
         if asked::verb(line, b"noreaction") {
-            return timing::no_reaction(table, service, dialogue, rows);
+            return call_release::no_reaction(table, service, dialogue, rows);
         }
     }
     unread()
@@ -62,9 +62,15 @@ fn on_dialogue(table: &mut [u8], rows: &mut [u8], line: &[u8]) -> Reply {
 fn abort(table: &mut [u8], space: &mut [u8], line: &mut [u8]) -> Reply {
     let n = asked::on_dialogue(line);
     let f = asked::field(line, 3);
-    let p = fields::octets_or_none(line, f);
+    let p = program_fields::octets_or_none(line, f);
     if n.ok && p.ok {
-        return sending::send_abort(table, n.service, n.dialogue, fields::cut(line, p), space);
+        return call_send::send_abort(
+            table,
+            n.service,
+            n.dialogue,
+            program_fields::cut(line, p),
+            space,
+        );
     }
     unread()
 }
@@ -74,13 +80,13 @@ fn on_invocation(table: &mut [u8], rows: &mut [u8], line: &[u8]) -> Reply {
     let n = asked::on_invocation(line);
     if n.ok {
         if asked::verb(line, b"cancel") {
-            return timing::cancel(table, n.service, n.dialogue, n.id);
+            return call_release::cancel(table, n.service, n.dialogue, n.id);
         }
         if asked::verb(line, b"timeout") {
-            return timing::timeout(table, n.service, n.dialogue, n.id, rows);
+            return call_release::timeout(table, n.service, n.dialogue, n.id, rows);
         }
         if asked::verb(line, b"rejtimeout") {
-            return timing::reject_timeout(table, n.service, n.dialogue, n.id);
+            return call_release::reject_timeout(table, n.service, n.dialogue, n.id);
         }
     }
     unread()
@@ -90,7 +96,7 @@ fn reject(table: &mut [u8], line: &[u8]) -> Reply {
     let n = asked::on_invocation(line);
     let p = asked::number(line, 4);
     if n.ok && p.ok {
-        return passing::reject(table, n.service, n.dialogue, n.id, p.value);
+        return call_pass::reject(table, n.service, n.dialogue, n.id, p.value);
     }
     unread()
 }
@@ -98,13 +104,13 @@ fn reject(table: &mut [u8], line: &[u8]) -> Reply {
 fn error(table: &mut [u8], line: &[u8], given: Pair) -> Reply {
     let n = asked::on_invocation(line);
     if n.ok {
-        return passing::error(
+        return call_pass::error(
             table,
             n.service,
             n.dialogue,
             n.id,
-            fields::cut(line, given.first),
-            fields::cut(line, given.second),
+            program_fields::cut(line, given.first),
+            program_fields::cut(line, given.second),
         );
     }
     unread()
@@ -114,14 +120,14 @@ fn result(table: &mut [u8], line: &[u8], given: Pair) -> Reply {
     let n = asked::on_invocation(line);
     let tag = asked::result_tag(asked::part(line, 4));
     if n.ok && tag > 0 {
-        return passing::result(
+        return call_pass::result(
             table,
             n.service,
             n.dialogue,
             tag,
             n.id,
-            fields::cut(line, given.first),
-            fields::cut(line, given.second),
+            program_fields::cut(line, given.first),
+            program_fields::cut(line, given.second),
         );
     }
     unread()
@@ -132,15 +138,15 @@ fn invoke(table: &mut [u8], line: &[u8], given: Pair) -> Reply {
     let linked = asked::linked(asked::part(line, 4));
     let class = asked::number(line, 5);
     if n.ok && linked.ok && class.ok {
-        return passing::invoke(
+        return call_pass::invoke(
             table,
             n.service,
             n.dialogue,
             n.id,
             linked.value,
             class.value,
-            fields::cut(line, given.first),
-            fields::cut(line, given.second),
+            program_fields::cut(line, given.first),
+            program_fields::cut(line, given.second),
         );
     }
     unread()
@@ -151,20 +157,27 @@ fn send(table: &mut [u8], space: &mut [u8], line: &[u8], given: Pair) -> Reply {
     let n = asked::on_dialogue(line);
     let service = n.service;
     let dialogue = n.dialogue;
-    let name = fields::cut(line, given.first);
-    let information = fields::cut(line, given.second);
+    let name = program_fields::cut(line, given.first);
+    let information = program_fields::cut(line, given.second);
     if n.ok {
         if asked::verb(line, b"begin") {
-            return sending::send_begin(table, service, dialogue, name, information, space);
+            return call_send::send_begin(table, service, dialogue, name, information, space);
         }
         if asked::verb(line, b"continue") {
-            return sending::send_continue(table, service, dialogue, name, information, space);
+            return call_send::send_continue(table, service, dialogue, name, information, space);
         }
         if asked::verb(line, b"end") {
-            return sending::send_end(table, service, dialogue, name, information, space);
+            return call_send::send_end(table, service, dialogue, name, information, space);
         }
         if asked::verb(line, b"uni") {
-            return sending::send_unidirectional(table, service, dialogue, name, information, space);
+            return call_send::send_unidirectional(
+                table,
+                service,
+                dialogue,
+                name,
+                information,
+                space,
+            );
         }
     }
     unread()
@@ -174,7 +187,7 @@ fn send(table: &mut [u8], space: &mut [u8], line: &[u8], given: Pair) -> Reply {
 fn with_pair(table: &mut [u8], space: &mut [u8], line: &mut [u8], k: usize) -> Reply
     requires { ⌜ k < 8 ⌝ }
 {
-    let given = fields::octets_of_two(line, b' ', k);
+    let given = program_fields::octets_of_two(line, b' ', k);
     if given.ok {
         if k == 3 {
             return send(table, space, line, given);
@@ -218,7 +231,7 @@ fn with_five(table: &mut [u8], space: &mut [u8], line: &mut [u8]) -> Reply {
 }
 
 fn reply_to(table: &mut [u8], rows: &mut [u8], space: &mut [u8], line: &mut [u8]) -> Reply {
-    let n = fields::separators(line, b' ');
+    let n = program_fields::separators(line, b' ');
     if n == 1 {
         return open_for(table, line);
     }
@@ -245,32 +258,32 @@ fn reply_to(table: &mut [u8], rows: &mut [u8], space: &mut [u8], line: &mut [u8]
 
 // `parameter OCTETS START LENGTH`
 fn parameter(line: &mut [u8], number: u64) {
-    let n = fields::separators(line, b' ');
+    let n = program_fields::separators(line, b' ');
     let start = asked::number(line, 2);
     let count = asked::number(line, 3);
     let f = asked::field(line, 1);
-    let m = fields::octets_or_none(line, f);
+    let m = program_fields::octets_or_none(line, f);
     if n == 3 && start.ok && count.ok && m.ok {
         show::parameter_line(
-            fields::cut(line, m),
+            program_fields::cut(line, m),
             start.value as usize,
             count.value as usize,
         );
         return;
     }
-    text::bad(number, b' ');
+    program_text::bad(number, b' ');
 }
 
 // `portion OCTETS START LENGTH`
 fn portion(rows: &mut [u8], line: &mut [u8], number: u64) {
-    let n = fields::separators(line, b' ');
+    let n = program_fields::separators(line, b' ');
     let start = asked::number(line, 2);
     let count = asked::number(line, 3);
     let f = asked::field(line, 1);
-    let m = fields::octets_or_none(line, f);
+    let m = program_fields::octets_or_none(line, f);
     if n == 3 && start.ok && count.ok && m.ok {
-        asking::portion(
-            fields::cut(line, m),
+        call_portion::portion(
+            program_fields::cut(line, m),
             start.value as usize,
             count.value as usize,
             rows,
@@ -278,19 +291,19 @@ fn portion(rows: &mut [u8], line: &mut [u8], number: u64) {
         show::portion_line(rows);
         return;
     }
-    text::bad(number, b' ');
+    program_text::bad(number, b' ');
 }
 
 // `components OCTETS`
 fn components(line: &mut [u8], number: u64) {
     let f = asked::field(line, 1);
-    let n = fields::separators(line, b' ');
-    let m = fields::octets_or_none(line, f);
+    let n = program_fields::separators(line, b' ');
+    let m = program_fields::octets_or_none(line, f);
     if n == 1 && m.ok {
-        show::component_lines(fields::cut(line, m));
+        show::component_lines(program_fields::cut(line, m));
         return;
     }
-    text::bad(number, b' ');
+    program_text::bad(number, b' ');
 }
 
 // A comment, or what a call gives.
@@ -301,7 +314,7 @@ fn passed_over(line: &[u8]) -> bool {
     if line[0] == b'#' || line[0] == b'=' {
         return true;
     }
-    if fields::separators(line, b' ') == 0 {
+    if program_fields::separators(line, b' ') == 0 {
         return false;
     }
     if asked::verb(line, b"r") {
@@ -314,7 +327,7 @@ fn called(table: &mut [u8], rows: &mut [u8], space: &mut [u8], line: &mut [u8], 
     let opens = asked::verb(line, b"open");
     let r = reply_to(table, rows, space, line);
     if r.answer == UNREAD {
-        text::bad(number, b' ');
+        program_text::bad(number, b' ');
         return;
     }
     show::reply(r, opens, space);

@@ -7,16 +7,16 @@ mod show;
 
 ghost use Prim.Native.Nat.{_≤_};
 ghost use lib.ListN.{length};
-use lines::Line;
 use paper::LEAST_ROWS;
 use paper::LEAST_SPACE;
 use paper::TABLE_OCTETS;
+use program_lines::Line;
 
 fn play(table: &mut [u8], rows: &mut [u8], space: &mut [u8], line: &mut [u8], l: Line)
     requires { ⌜ l .count ≤ length (now line) ⌝ }
 {
     if l.long {
-        text::bad(l.number, b' ');
+        program_text::bad(l.number, b' ');
         return;
     }
     let n = l.count;
@@ -25,10 +25,10 @@ fn play(table: &mut [u8], rows: &mut [u8], space: &mut [u8], line: &mut [u8], l:
 
 // Nothing says that the input ends, so the loop counts its turns down, from a number that no run uses up.
 fn replay(buf: &mut [u8], table: &mut [u8], rows: &mut [u8], space: &mut [u8], line: &mut [u8]) {
-    let mut l = lines::start();
+    let mut l = program_lines::start();
     let mut turns = u64::MAX;
     while turns > 0 {
-        l = lines::next(buf, line, l);
+        l = program_lines::next(buf, line, l);
         if l.none {
             break;
         }

@@ -8,8 +8,8 @@ use paper::PLACES;
 fn number(out: &mut [u8], at: usize, n: u64) -> usize
     ensures { λ r. ⌜ r ≤ length (now (out .exit)) ⌝ }
 {
-    let a = text::put(out, at, b'\t');
-    text::decimal(out, a, n)
+    let a = program_text::put(out, at, b'\t');
+    program_text::decimal(out, a, n)
 }
 
 // The state octet of a dialogue's place (docs/TABLE.md), 0 where the place is free.
@@ -27,18 +27,18 @@ fn state_word(out: &mut [u8], at: usize, state: u8) -> usize
     ensures { λ r. ⌜ r ≤ length (now (out .exit)) ⌝ }
 {
     if state == 1 {
-        return text::word(out, at, b"\topen");
+        return program_text::word(out, at, b"\topen");
     }
     if state == 2 {
-        return text::word(out, at, b"\tsent");
+        return program_text::word(out, at, b"\tsent");
     }
     if state == 3 {
-        return text::word(out, at, b"\treceived");
+        return program_text::word(out, at, b"\treceived");
     }
     if state == 4 {
-        return text::word(out, at, b"\tactive");
+        return program_text::word(out, at, b"\tactive");
     }
-    text::word(out, at, b"\tidle")
+    program_text::word(out, at, b"\tidle")
 }
 
 // The dialogue and its state after.
@@ -47,31 +47,31 @@ fn dialogue(out: &mut [u8], at: usize, p: Played, table: &[u8]) -> usize
     ensures { λ r. ⌜ r ≤ length (now (out .exit)) ⌝ }
 {
     if p.told {
-        let a = text::put(out, at, b'\t');
-        let b = listing::dialogue(out, a, p.dialogue);
+        let a = program_text::put(out, at, b'\t');
+        let b = program_listing::dialogue(out, a, p.dialogue);
         return state_word(out, b, state_at(table, p.dialogue));
     }
-    text::word(out, at, b"\t-\t-")
+    program_text::word(out, at, b"\t-\t-")
 }
 
 fn write(out: &mut [u8], line: u64, p: Played, table: &[u8], space: &[u8]) -> usize
     ensures { λ r. ⌜ r ≤ length (now (out .exit)) ⌝ }
 {
-    let a = text::decimal(out, 0, line);
+    let a = program_text::decimal(out, 0, line);
     let b = number(out, a, p.answer as u64);
     let c = dialogue(out, b, p, table);
     let d = number(out, c, p.rows as u64);
-    let e = text::put(out, d, b'\t');
-    let f = listing::message(out, e, space, p.length);
-    text::put(out, f, b'\n')
+    let e = program_text::put(out, d, b'\t');
+    let f = program_listing::message(out, e, space, p.length);
+    program_text::put(out, f, b'\n')
 }
 
 pub fn line(number: u64, p: Played, table: &[u8], space: &[u8]) {
     if p.read {
         let mut out = [0u8; 1024];
         let n = write(&mut out, number, p, table, space);
-        text::say(&out, n);
+        program_text::say(&out, n);
         return;
     }
-    text::bad(number, b'\t');
+    program_text::bad(number, b'\t');
 }

@@ -6,7 +6,7 @@ ghost use lib.ListN.{length};
 ghost use Rattle.laws.specs.Runs.{Wrote};
 ghost use Rattle.paper.specs.Components.{invokeTag};
 ghost use Rattle.paper.specs.Writing.{tlv, idThen, invokeOctets, resultOctets, errorOctets, rejectOctets};
-ghost use Rattle.writing.specs.Lengths.{Room, elementSize, invokeSize, resultSize, errorSize, rejectSize};
+ghost use Rattle.writing_octets.specs.Lengths.{Room, elementSize, invokeSize, resultSize, errorSize, rejectSize};
 
 // An invoke that is not linked, or an error: ID, operation or error, parameter.
 fn write_plain(out: &mut [u8], at: usize, tag: u8, id: u8, code: &[u8], par: &[u8]) -> usize
@@ -14,10 +14,10 @@ fn write_plain(out: &mut [u8], at: usize, tag: u8, id: u8, code: &[u8], par: &[u
     ensures is { λ r. ⌜ Wrote (now (out .entry)) at (tlv tag (idThen id (now (code .entry) ++ now (par .entry)))) r (now (out .exit)) ⌝ }
     ensures within { λ r. ⌜ r ≡ at + elementSize (3 + length (now (code .entry)) + length (now (par .entry))) ⌝ }
 {
-    let a = writing::write_head(out, at, tag, 3 + code.len() + par.len());
-    let b = writing::write_single(out, a, 2, id);
-    let d = writing::copy_at(out, b, code);
-    writing::copy_at(out, d, par)
+    let a = writing_octets::write_head(out, at, tag, 3 + code.len() + par.len());
+    let b = writing_octets::write_single(out, a, 2, id);
+    let d = writing_octets::copy_at(out, b, code);
+    writing_octets::copy_at(out, d, par)
 }
 
 // An invoke that is linked.
@@ -26,11 +26,11 @@ fn write_linked(out: &mut [u8], at: usize, id: u8, linked: u8, op: &[u8], par: &
     ensures is { λ r. ⌜ Wrote (now (out .entry)) at (tlv invokeTag (idThen id (0x80 ∷ 1 ∷ linked ∷ (now (op .entry) ++ now (par .entry))))) r (now (out .exit)) ⌝ }
     ensures within { λ r. ⌜ r ≡ at + elementSize (6 + length (now (op .entry)) + length (now (par .entry))) ⌝ }
 {
-    let a = writing::write_head(out, at, 0xA1, 6 + op.len() + par.len());
-    let b = writing::write_single(out, a, 2, id);
-    let d = writing::write_single(out, b, 0x80, linked);
-    let e = writing::copy_at(out, d, op);
-    writing::copy_at(out, e, par)
+    let a = writing_octets::write_head(out, at, 0xA1, 6 + op.len() + par.len());
+    let b = writing_octets::write_single(out, a, 2, id);
+    let d = writing_octets::write_single(out, b, 0x80, linked);
+    let e = writing_octets::copy_at(out, d, op);
+    writing_octets::copy_at(out, e, par)
 }
 
 // An invoke; linked is 256 for none, and a parameter that is absent has no octets.
@@ -53,7 +53,7 @@ pub fn result_size(op: &[u8], par: &[u8]) -> usize
     if op.len() == 0 {
         return 5;
     }
-    writing::element_size(3 + writing::element_size(op.len() + par.len()))
+    writing_octets::element_size(3 + writing_octets::element_size(op.len() + par.len()))
 }
 
 // A result with operation and parameter, in a 30 of m octets.
@@ -62,11 +62,11 @@ fn write_both(out: &mut [u8], at: usize, tag: u8, id: u8, op: &[u8], par: &[u8],
     ensures is { λ r. ⌜ Wrote (now (out .entry)) at (tlv tag (idThen id (tlv 0x30 (now (op .entry) ++ now (par .entry))))) r (now (out .exit)) ⌝ }
     ensures within { λ r. ⌜ r ≡ at + elementSize (3 + m) ⌝ }
 {
-    let a = writing::write_head(out, at, tag, 3 + m);
-    let b = writing::write_single(out, a, 2, id);
-    let d = writing::write_head(out, b, 0x30, op.len() + par.len());
-    let e = writing::copy_at(out, d, op);
-    writing::copy_at(out, e, par)
+    let a = writing_octets::write_head(out, at, tag, 3 + m);
+    let b = writing_octets::write_single(out, a, 2, id);
+    let d = writing_octets::write_head(out, b, 0x30, op.len() + par.len());
+    let e = writing_octets::copy_at(out, d, op);
+    writing_octets::copy_at(out, e, par)
 }
 
 // A result, last or not last by its tag; "a result lacks the whole 30" without operation and parameter.
@@ -76,10 +76,10 @@ pub fn write_result(out: &mut [u8], at: usize, tag: u8, id: u8, op: &[u8], par: 
     ensures within { λ r. ⌜ r ≡ at + resultSize (now (op .entry)) (now (par .entry)) ⌝ }
 {
     if op.len() == 0 {
-        let a = writing::write_head(out, at, tag, 3);
-        return writing::write_single(out, a, 2, id);
+        let a = writing_octets::write_head(out, at, tag, 3);
+        return writing_octets::write_single(out, a, 2, id);
     }
-    let m = writing::element_size(op.len() + par.len());
+    let m = writing_octets::element_size(op.len() + par.len());
     write_both(out, at, tag, id, op, par, m)
 }
 
@@ -112,12 +112,12 @@ pub fn write_reject(out: &mut [u8], at: usize, id: u32, problem: u32) -> usize
     let tag = (0x80 + problem / 256) as u8;
     let code = (problem % 256) as u8;
     if id == 256 {
-        let a = writing::write_head(out, at, 0xA4, 5);
-        let b = writing::put(out, a, 5);
-        let d = writing::put(out, b, 0);
-        return writing::write_single(out, d, tag, code);
+        let a = writing_octets::write_head(out, at, 0xA4, 5);
+        let b = writing_octets::put(out, a, 5);
+        let d = writing_octets::put(out, b, 0);
+        return writing_octets::write_single(out, d, tag, code);
     }
-    let a = writing::write_head(out, at, 0xA4, 6);
-    let b = writing::write_single(out, a, 2, id as u8);
-    writing::write_single(out, b, tag, code)
+    let a = writing_octets::write_head(out, at, 0xA4, 6);
+    let b = writing_octets::write_single(out, a, 2, id as u8);
+    writing_octets::write_single(out, b, tag, code)
 }

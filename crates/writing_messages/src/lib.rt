@@ -7,8 +7,8 @@ ghost use Rattle.laws.specs.Runs.{Wrote};
 ghost use Rattle.paper.specs.Sizes.{idOctets};
 ghost use Rattle.paper.specs.Messages.{uniTag, beginTag, endTag, continueTag, abortTag};
 ghost use Rattle.paper.specs.Writing.{tlv, causeAbortOctets};
-ghost use Rattle.writing.specs.Heads.{componentsHead, frontHead};
-ghost use Rattle.writing.specs.Lengths.{Room, elementSize};
+ghost use Rattle.writing_octets.specs.Heads.{componentsHead, frontHead};
+ghost use Rattle.writing_octets.specs.Lengths.{Room, elementSize};
 
 // A local ID's octets.
 fn id_octets(dialogue: u32) -> [u8; 4]
@@ -28,9 +28,9 @@ fn write_id(out: &mut [u8], at: usize, tag: u8, id: &[u8]) -> usize
     ensures is { λ r. ⌜ Wrote (now (out .entry)) at (tlv tag (now (id .entry))) r (now (out .exit)) ⌝ }
     ensures within { λ r. ⌜ r ≡ at + 2 + length (now (id .entry)) ⌝ }
 {
-    let a = writing::put(out, at, tag);
-    let b = writing::put(out, a, id.len() as u8);
-    writing::copy_at(out, b, id)
+    let a = writing_octets::put(out, at, tag);
+    let b = writing_octets::put(out, a, id.len() as u8);
+    writing_octets::copy_at(out, b, id)
 }
 
 // The peer's ID, the first peerlen octets of peer.
@@ -51,7 +51,7 @@ pub fn components_size(n: usize) -> usize
     if n == 0 {
         return 0;
     }
-    writing::element_size(n)
+    writing_octets::element_size(n)
 }
 
 // The 6C up to its components.
@@ -62,7 +62,7 @@ pub fn write_components(out: &mut [u8], at: usize, n: usize) -> usize
     if n == 0 {
         return at;
     }
-    writing::write_head(out, at, 0x6C, n)
+    writing_octets::write_head(out, at, 0x6C, n)
 }
 
 // A Begin up to its ID, where m octets of dialogue portion and components follow.
@@ -72,7 +72,7 @@ pub fn begin_front(out: &mut [u8], at: usize, dialogue: u32, m: usize) -> usize
     ensures within { λ r. ⌜ r + m ≡ at + elementSize (6 + m) ⌝ }
 {
     let own = id_octets(dialogue);
-    let a = writing::write_head(out, at, 0x62, 6 + m);
+    let a = writing_octets::write_head(out, at, 0x62, 6 + m);
     write_id(out, a, 0x48, &own)
 }
 
@@ -90,7 +90,7 @@ pub fn continue_front(
     ensures within { λ r. ⌜ r + m ≡ at + elementSize (8 + peerlen + m) ⌝ }
 {
     let own = id_octets(dialogue);
-    let a = writing::write_head(out, at, 0x65, 8 + peerlen + m);
+    let a = writing_octets::write_head(out, at, 0x65, 8 + peerlen + m);
     let b = write_id(out, a, 0x48, &own);
     write_peer(out, b, peer, peerlen)
 }
@@ -101,7 +101,7 @@ fn peer_front(out: &mut [u8], at: usize, tag: u8, peer: [u8; 4], peerlen: usize,
     ensures is { λ r. ⌜ Wrote (now (out .entry)) at (frontHead tag (tlv 0x49 (take peerlen peer)) m) r (now (out .exit)) ⌝ }
     ensures within { λ r. ⌜ r + m ≡ at + elementSize (2 + peerlen + m) ⌝ }
 {
-    let a = writing::write_head(out, at, tag, 2 + peerlen + m);
+    let a = writing_octets::write_head(out, at, tag, 2 + peerlen + m);
     write_peer(out, a, peer, peerlen)
 }
 
@@ -129,7 +129,7 @@ pub fn uni_front(out: &mut [u8], at: usize, m: usize) -> usize
     ensures is { λ r. ⌜ Wrote (now (out .entry)) at (frontHead uniTag [] m) r (now (out .exit)) ⌝ }
     ensures within { λ r. ⌜ r + m ≡ at + elementSize m ⌝ }
 {
-    writing::write_head(out, at, 0x61, m)
+    writing_octets::write_head(out, at, 0x61, m)
 }
 
 // The transaction sub-layer's Abort, with its cause; peer is the received originating ID.
@@ -138,7 +138,7 @@ pub fn write_cause_abort(out: &mut [u8], at: usize, peer: &[u8], cause: u8) -> u
     ensures is { λ r. ⌜ Wrote (now (out .entry)) at (causeAbortOctets (now (peer .entry)) cause) r (now (out .exit)) ⌝ }
     ensures within { λ r. ⌜ r ≡ at + 7 + length (now (peer .entry)) ⌝ }
 {
-    let a = writing::write_head(out, at, 0x67, 5 + peer.len());
+    let a = writing_octets::write_head(out, at, 0x67, 5 + peer.len());
     let b = write_id(out, a, 0x49, peer);
-    writing::write_single(out, b, 0x4A, cause)
+    writing_octets::write_single(out, b, 0x4A, cause)
 }

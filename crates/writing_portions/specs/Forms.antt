@@ -7,8 +7,8 @@ use lib.ListN.{length, length-append}
 use Rattle.laws.specs.If.{ifLt, ifEq, eq, ne, by-eq}
 use Rattle.paper.specs.Writing.{lengthOctets, tlv}
 use Rattle.paper.specs.Portions.{Form, structured, unstructured, aarq, aare, abrt, audt, pieceOctets, piecesOctets}
-use Rattle.writing.specs.Heads.{elementHead}
-use Rattle.writing.specs.Lengths.{elementSize, element-of, element-length, element-small, id-length}
+use Rattle.writing_octets.specs.Heads.{elementHead}
+use Rattle.writing_octets.specs.Lengths.{elementSize, element-of, element-length, element-small, id-length}
 
 -- 2 AARQ, 3 AARE, 4 ABRT, 5 AUDT, as in a row
 unfoldable pub formFor : ℕ → Form

@@ -7,7 +7,7 @@ use lib.ListN.{length, length-append}
 use Rattle.laws.specs.If.{ifEq, eq, ne, by-eq}
 use Rattle.paper.specs.Writing.{tlv}
 use Rattle.paper.specs.Portions.{portionOctets, portionBy}
-use Rattle.writing.specs.Lengths.{elementSize, element-length, element-small}
+use Rattle.writing_octets.specs.Lengths.{elementSize, element-length, element-small}
 use Rattle.writing_portions.specs.Forms.{formFor, nameOctets, between, pduOctets, no-name, none-named, some-named, identifier-length, pieces-joined, aroundSize, aroundHead, around-small, around-of, around-joined}
 
 unfoldable pub nameSize : ℕ → ℕ → ℕ

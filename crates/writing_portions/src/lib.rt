@@ -8,7 +8,7 @@ ghost use lib.ListN.{length};
 ghost use Rattle.laws.specs.Runs.{Wrote};
 ghost use Rattle.paper.specs.Writing.{tlv};
 ghost use Rattle.paper.specs.Portions.{portionBy};
-ghost use Rattle.writing.specs.Lengths.{Room};
+ghost use Rattle.writing_octets.specs.Lengths.{Room};
 ghost use Rattle.writing_portions.specs.Forms.{formFor, nameOctets, between, pduOctets, heldSize, aroundSize, aroundHead};
 ghost use Rattle.writing_portions.specs.Spans.{nameSize, pduSize, portionSize};
 
@@ -24,7 +24,7 @@ fn name_size(kind: u8, name: usize) -> usize
     if name == 0 {
         return 0;
     }
-    writing::element_size(name)
+    writing_octets::element_size(name)
 }
 
 // Those of what stands after it: an AARE's result and diagnostic, an ABRT's source.
@@ -56,8 +56,8 @@ fn held_size(n: usize) -> usize
     ensures is { λ r. ⌜ r ≡ heldSize n ⌝ }
     ensures within { λ r. ⌜ r ≤ n + 17 ⌝ }
 {
-    let pdu = writing::element_size(n);
-    9 + writing::element_size(pdu)
+    let pdu = writing_octets::element_size(n);
+    9 + writing_octets::element_size(pdu)
 }
 
 // And a whole portion, the 6B with the 28.
@@ -66,8 +66,8 @@ fn around_size(n: usize) -> usize
     ensures is { λ r. ⌜ r ≡ aroundSize n ⌝ }
     ensures within { λ r. ⌜ r ≤ n + 25 ⌝ }
 {
-    let external = writing::element_size(held_size(n));
-    writing::element_size(external)
+    let external = writing_octets::element_size(held_size(n));
+    writing_octets::element_size(external)
 }
 
 // The octets of a portion with a name and user information of so many octets: none where neither is given.
@@ -94,8 +94,8 @@ fn write_name(out: &mut [u8], at: usize, kind: u8, name: &[u8]) -> usize
     if name.len() == 0 {
         return at;
     }
-    let a = writing::write_head(out, at, 0xA1, name.len());
-    writing::copy_at(out, a, name)
+    let a = writing_octets::write_head(out, at, 0xA1, name.len());
+    writing_octets::copy_at(out, a, name)
 }
 
 // "AARE: accepted, user, null"; "ABRT: user".
@@ -105,10 +105,10 @@ fn write_between(out: &mut [u8], at: usize, kind: u8) -> usize
 {
     if kind == AARE {
         let accepted = [0xA2u8, 3, 2, 1, 0, 0xA3, 5, 0xA1, 3, 2, 1, 0];
-        return writing::copy_at(out, at, &accepted);
+        return writing_octets::copy_at(out, at, &accepted);
     }
     if kind == ABRT {
-        return writing::write_single(out, at, 0x80, 0);
+        return writing_octets::write_single(out, at, 0x80, 0);
     }
     at
 }
@@ -120,7 +120,7 @@ fn write_pdu(out: &mut [u8], at: usize, kind: u8, name: &[u8], information: &[u8
 {
     let a = write_name(out, at, kind, name);
     let b = write_between(out, a, kind);
-    writing::copy_at(out, b, information)
+    writing_octets::copy_at(out, b, information)
 }
 
 // The object identifier with its tag and length: unstructured for an AUDT, else structured.
@@ -153,11 +153,11 @@ fn write_around(out: &mut [u8], at: usize, kind: u8, n: usize) -> usize
 {
     let held = held_size(n);
     let object = identifier(kind);
-    let a = writing::write_head(out, at, 0x6B, writing::element_size(held));
-    let b = writing::write_head(out, a, 0x28, held);
-    let d = writing::copy_at(out, b, &object);
-    let e = writing::write_head(out, d, 0xA0, writing::element_size(n));
-    writing::write_head(out, e, tag_of(kind), n)
+    let a = writing_octets::write_head(out, at, 0x6B, writing_octets::element_size(held));
+    let b = writing_octets::write_head(out, a, 0x28, held);
+    let d = writing_octets::copy_at(out, b, &object);
+    let e = writing_octets::write_head(out, d, 0xA0, writing_octets::element_size(n));
+    writing_octets::write_head(out, e, tag_of(kind), n)
 }
 
 // A portion with a name and user information: nothing where neither is given.

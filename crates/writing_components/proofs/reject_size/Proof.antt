@@ -1,5 +1,5 @@
 use native.Mathlib.Omega.{arith}
-use Rattle.writing.specs.Lengths.{null-size, some-size}
+use Rattle.writing_octets.specs.Lengths.{null-size, some-size}
 use Rattle.writing_components.proofs.reject_size.Statement.{statement}
 use Rattle.writing_components.proofs.reject_size.Tie as tie
 

@@ -1,6 +1,6 @@
 use mathlib.Core.Path.{_∙_, ap}
 use Prim.Native.Nat.{ℕ, _+_}
-use Rattle.writing.specs.Lengths.{elementSize, none-size, both-size}
+use Rattle.writing_octets.specs.Lengths.{elementSize, none-size, both-size}
 use borrow.Author.Needs.{needs}
 use Rattle.writing_components.proofs.result_size.Statement.{statement}
 use Rattle.writing_components.proofs.result_size.Tie as tie

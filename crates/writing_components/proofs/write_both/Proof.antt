@@ -1,5 +1,5 @@
 use mathlib.Core.Path.{refl}
-use Rattle.writing.specs.Lengths.{both-of}
+use Rattle.writing_octets.specs.Lengths.{both-of}
 use native.Mathlib.Omega.{arith}
 use mathlib.Core.Path.{refl}
 use mathlib.Core.List.{append-assoc}

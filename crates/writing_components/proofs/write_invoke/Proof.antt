@@ -1,6 +1,6 @@
 use native.Mathlib.Omega.{arith}
 use Rattle.laws.specs.Runs.{wrote-as}
-use Rattle.writing.specs.Lengths.{plain-size, linked-size, invoke-plain, invoke-linked}
+use Rattle.writing_octets.specs.Lengths.{plain-size, linked-size, invoke-plain, invoke-linked}
 use borrow.Author.Needs.{needs}
 use Rattle.writing_components.proofs.write_invoke.Statement.{statement}
 use Rattle.writing_components.proofs.write_invoke.Tie as tie

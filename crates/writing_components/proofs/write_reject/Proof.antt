@@ -2,7 +2,7 @@ use native.Mathlib.Omega.{arith}
 use mathlib.Core.Path.{refl, _∙_}
 use Rattle.paper.specs.Writing.{problemOctets}
 use Rattle.laws.specs.Runs.{wrote-more, wrote-as}
-use Rattle.writing.specs.Lengths.{short-size, element-of, null-size, some-size, reject-none, reject-some}
+use Rattle.writing_octets.specs.Lengths.{short-size, element-of, null-size, some-size, reject-none, reject-some}
 use mathlib.Core.List.{append-assoc}
 use borrow.Author.Needs.{needs}
 use Rattle.writing_components.proofs.write_reject.Statement.{statement}

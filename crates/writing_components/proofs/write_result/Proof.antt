@@ -2,7 +2,7 @@ use native.Mathlib.Omega.{arith}
 use mathlib.Core.Path.{refl, _∙_, ap}
 use Prim.Native.Nat.{ℕ, _+_}
 use Rattle.laws.specs.Runs.{wrote-more, wrote-as}
-use Rattle.writing.specs.Lengths.{elementSize, short-size, element-of, none-size, both-size, result-none, result-both}
+use Rattle.writing_octets.specs.Lengths.{elementSize, short-size, element-of, none-size, both-size, result-none, result-both}
 use borrow.Author.Needs.{needs}
 use Rattle.writing_components.proofs.write_result.Statement.{statement}
 use Rattle.writing_components.proofs.write_result.Tie as tie

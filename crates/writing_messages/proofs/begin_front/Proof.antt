@@ -2,7 +2,7 @@ use mathlib.Core.Path.{ap, sym}
 use native.Mathlib.Omega.{arith}
 use Rattle.laws.specs.Runs.{wrote-as}
 use Rattle.paper.specs.Writing.{tlv}
-use Rattle.writing.specs.Lengths.{front-wrote, id-length}
+use Rattle.writing_octets.specs.Lengths.{front-wrote, id-length}
 use borrow.Author.Needs.{needs}
 use Rattle.writing_messages.proofs.begin_front.Statement.{statement}
 use Rattle.writing_messages.proofs.begin_front.Tie as tie

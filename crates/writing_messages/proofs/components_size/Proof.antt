@@ -1,7 +1,7 @@
 use mathlib.Core.Path.{ap}
 use native.Mathlib.Omega.{arith}
 use lib.ListN.{length}
-use Rattle.writing.specs.Lengths.{no-components, some-components}
+use Rattle.writing_octets.specs.Lengths.{no-components, some-components}
 use borrow.Author.Needs.{needs}
 use Rattle.writing_messages.proofs.components_size.Statement.{statement}
 use Rattle.writing_messages.proofs.components_size.Tie as tie

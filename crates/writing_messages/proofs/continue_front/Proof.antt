@@ -5,7 +5,7 @@ use lib.ListN.{take, length-append}
 use Rattle.laws.specs.Runs.{wrote-as, wrote-more}
 use Rattle.paper.specs.Sizes.{idOctets}
 use Rattle.paper.specs.Writing.{tlv}
-use Rattle.writing.specs.Lengths.{front-wrote, id-length, peer-length}
+use Rattle.writing_octets.specs.Lengths.{front-wrote, id-length, peer-length}
 use borrow.Author.Needs.{needs}
 use Rattle.writing_messages.proofs.continue_front.Statement.{statement}
 use Rattle.writing_messages.proofs.continue_front.Tie as tie

@@ -1,7 +1,7 @@
 use mathlib.Core.Path.{sym}
 use Prim.Native.Nat.{_+_}
 use native.Mathlib.Omega.{arith}
-use Rattle.writing.specs.Lengths.{front-wrote, peer-length}
+use Rattle.writing_octets.specs.Lengths.{front-wrote, peer-length}
 use borrow.Author.Needs.{needs}
 use Rattle.writing_messages.proofs.peer_front.Statement.{statement}
 use Rattle.writing_messages.proofs.peer_front.Tie as tie

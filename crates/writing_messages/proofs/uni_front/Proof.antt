@@ -2,8 +2,8 @@ use mathlib.Core.Path.{_≡_, refl, ap}
 use Prim.Native.Nat.{_+_}
 use native.Mathlib.Omega.{arith}
 use Rattle.laws.specs.Runs.{wrote-none, wrote-as}
-use Rattle.writing.specs.Heads.{elementHead}
-use Rattle.writing.specs.Lengths.{front-wrote}
+use Rattle.writing_octets.specs.Heads.{elementHead}
+use Rattle.writing_octets.specs.Lengths.{front-wrote}
 use borrow.Author.Needs.{needs}
 use Rattle.writing_messages.proofs.uni_front.Statement.{statement}
 use Rattle.writing_messages.proofs.uni_front.Tie as tie

@@ -5,7 +5,7 @@ use native.Mathlib.Omega.{arith}
 use lib.ListN.{length, length-append}
 use Rattle.laws.specs.Runs.{wrote-more, wrote-as}
 use Rattle.paper.specs.Writing.{tlv, causeAbortOctets}
-use Rattle.writing.specs.Lengths.{element-of, id-length, short-size}
+use Rattle.writing_octets.specs.Lengths.{element-of, id-length, short-size}
 use borrow.Author.Needs.{needs}
 use Rattle.writing_messages.proofs.write_cause_abort.Statement.{statement}
 use Rattle.writing_messages.proofs.write_cause_abort.Tie as tie

@@ -2,7 +2,7 @@ use mathlib.Core.Path.{ap}
 use native.Mathlib.Omega.{arith}
 use lib.ListN.{length}
 use Rattle.laws.specs.Runs.{wrote-none, wrote-as}
-use Rattle.writing.specs.Lengths.{no-components, some-components}
+use Rattle.writing_octets.specs.Lengths.{no-components, some-components}
 use borrow.Author.Needs.{needs}
 use Rattle.writing_messages.proofs.write_components.Statement.{statement}
 use Rattle.writing_messages.proofs.write_components.Tie as tie

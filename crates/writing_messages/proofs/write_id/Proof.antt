@@ -1,7 +1,7 @@
 use mathlib.Core.Path.{refl}
 use native.Mathlib.Omega.{arith}
 use Rattle.laws.specs.Runs.{wrote-more, wrote-as}
-use Rattle.writing.specs.Lengths.{id-of}
+use Rattle.writing_octets.specs.Lengths.{id-of}
 use borrow.Author.Needs.{needs}
 use Rattle.writing_messages.proofs.write_id.Statement.{statement}
 use Rattle.writing_messages.proofs.write_id.Tie as tie

@@ -1,7 +1,7 @@
 use mathlib.Core.Path.{ap, _∙_}
 use Prim.Native.Nat.{ℕ, _+_}
 use native.Mathlib.Omega.{arith}
-use Rattle.writing.specs.Lengths.{elementSize}
+use Rattle.writing_octets.specs.Lengths.{elementSize}
 use borrow.Author.Needs.{needs}
 use Rattle.writing_portions.proofs.held_size.Statement.{statement}
 use Rattle.writing_portions.proofs.held_size.Tie as tie

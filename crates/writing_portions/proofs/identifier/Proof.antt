@@ -2,7 +2,7 @@ use mathlib.Core.Path.{ap, _∙_}
 use native.Mathlib.Omega.{arith}
 use Rattle.paper.specs.Writing.{tlv}
 use Rattle.paper.specs.Portions.{structured, unstructured}
-use Rattle.writing.specs.Lengths.{id-of}
+use Rattle.writing_octets.specs.Lengths.{id-of}
 use Rattle.writing_portions.specs.Forms.{for-audt, for-dialogue}
 use Rattle.writing_portions.proofs.identifier.Statement.{statement}
 use Rattle.writing_portions.proofs.identifier.Tie as tie

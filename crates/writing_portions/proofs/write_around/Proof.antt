@@ -1,7 +1,7 @@
 use mathlib.Core.Path.{refl, ap}
 use native.Mathlib.Omega.{arith}
 use Rattle.laws.specs.Runs.{wrote-as, wrote-more}
-use Rattle.writing.specs.Lengths.{elementSize}
+use Rattle.writing_octets.specs.Lengths.{elementSize}
 use Rattle.writing_portions.specs.Forms.{formFor, around-small, around-size, around-head}
 use borrow.Author.Needs.{needs}
 use Rattle.writing_portions.proofs.write_around.Statement.{statement}

@@ -2,7 +2,7 @@ use mathlib.Core.Path.{refl, _∙_}
 use native.Mathlib.Omega.{arith}
 use lib.ListN.{length}
 use Rattle.laws.specs.Runs.{wrote-as, wrote-more, wrote-none}
-use Rattle.writing.specs.Lengths.{element-of, element-small}
+use Rattle.writing_octets.specs.Lengths.{element-of, element-small}
 use Rattle.writing_portions.specs.Forms.{no-name, none-named, some-named}
 use Rattle.writing_portions.specs.Spans.{some-size}
 use borrow.Author.Needs.{needs}

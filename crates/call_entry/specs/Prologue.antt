@@ -1,0 +1,132 @@
+-- THE PROLOGUE of a call: its number, and what stands where that is 0. Assumes nothing.
+use mathlib.Core.Path.{_≡_, refl, sym, ap, subst, _∙_}
+use mathlib.Core.Bool.{Bool, true, false}
+use mathlib.Core.List.{List}
+use Prim.Native.Nat.{ℕ, _+_, _<_, _≤_}
+use native.Mathlib.Omega.{arith}
+use lib.ListN.{getD}
+use Rattle.laws.specs.If.{ifLt, ifEq, ifB, lt, ge, eq, ne, yes, no}
+use Rattle.paper.specs.Sizes.{placesInAll, services, placeOf}
+use Rattle.paper.specs.Shares.{gives}
+use Rattle.paper.specs.Calls.{placeAt, guaranteeOf, limitOf, held, mayBegin, lowestFree, owns}
+use Rattle.paper.specs.Layout.{flag, view}
+use Rattle.paper.specs.declared.Control.{Control}
+use Rattle.table_laws.specs.Fine.{FinePlace, Storable}
+use Rattle.table_places.specs.Storing.{Storing}
+use Rattle.table_laws.specs.Ready.{Ready}
+use Rattle.table_laws.specs.Owners.{owned-is}
+use Rattle.table_laws.specs.Counts.{free-there, lowest-is-free}
+use Rattle.table_shares.specs.Share.{gives-room}
+use Rattle.table_shares.specs.Telling.{Told}
+use Rattle.table_rules.specs.Checking.{tableAnswer, Passed, passed-told}
+
+-- 1, 2, 3, else 0; of a call on a dialogue 5 too
+unfoldable pub entryOf : List ℕ → ℕ → ℕ
+entryOf t s = ifEq (tableAnswer t) 0 (ifLt s services 0 3) (tableAnswer t)
+
+unfoldable pub entryAt : List ℕ → ℕ → ℕ → ℕ
+entryAt t s d = ifEq (entryOf t s) 0 (ifB (owns (view t) s d) 0 5) (entryOf t s)
+
+-- WHAT A 0 HANDS OVER
+pub record InService (t : List ℕ) (s : ℕ) : Type 0 where
+  pub ready : Ready t
+  pub stands : 0 ≡ tableAnswer t
+  pub service : s < 16
+  -- where the share rule gives a place, the lowest free one is there
+  pub there : mayBegin (view t) s ≡ true → (lowestFree (view t) < 128) × (flag (placeAt (view t) (lowestFree (view t))) ≡ 1)
+
+-- place p of a table that keeps the rules has a dialogue
+pub record Used (t : List ℕ) (p : ℕ) : Type 0 where
+  pub ready : Ready t
+  pub small : p < 128
+  pub told : flag (placeAt (view t) p) ≡ 0
+  pub state : placeAt (view t) p .control .state ≡ 0 → ⊥
+  pub fine : FinePlace (placeAt (view t) p)
+
+pub record InDialogue (t : List ℕ) (s d p : ℕ) : Type 0 where
+  pub stands : 0 ≡ tableAnswer t
+  pub service : s < 16
+  pub owner : owns (view t) s d ≡ true
+  pub place : p ≡ placeOf d
+  pub used : Used t p
+
+-- what the two prologues tell: the number, and whether the share rule gives a place; the number and the place
+pub record Enters (t : List ℕ) (s answer : ℕ) (given : Bool) : Type 0 where
+  pub is : answer ≡ entryOf t s
+  pub inside : answer ≡ 0 → InService t s
+  pub may : answer ≡ 0 → given ≡ mayBegin (view t) s
+
+pub record Meets (t : List ℕ) (s d answer p : ℕ) : Type 0 where
+  pub is : answer ≡ entryAt t s d
+  pub inside : answer ≡ 0 → InDialogue t s d p
+
+module _ (t : List ℕ) (s : ℕ) where
+  pub enters-not : (n : ℕ) (m : Bool) → n ≡ tableAnswer t → 0 < n → Enters t s n m
+  unfolding entryOf
+  enters-not n m e h = record { is = ne _ _ _ _ (λ q. omega (arith, e, q)) e; inside = λ q. absurd (omega arith); may = λ q. absurd (omega arith) }
+
+  pub enters-service : (m : Bool) → 0 ≡ tableAnswer t → 16 ≤ s → Enters t s 3 m
+  unfolding entryOf
+  enters-service m e h = record { is = eq _ _ _ _ (sym e) (ge _ _ _ _ h refl); inside = λ q. absurd (omega arith); may = λ q. absurd (omega arith) }
+
+  pub enters : (counts : List ℕ) (rest left : ℕ) → 0 ≡ tableAnswer t → Passed t counts rest left → s < 16 → (m : Bool) (count guarantee limit : ℕ)
+      → count ≡ getD counts s 0 → guarantee ≡ getD t (16 + s) 0 → limit ≡ getD t (32 + s) 0
+      → ((g l c : ℕ → ℕ) (k : ℕ) → Told g l c k count guarantee limit rest left → m ≡ gives placesInAll services g l c k) → Enters t s 0 m
+  unfolding entryOf mayBegin
+  enters counts rest left e f h m count guarantee limit a b c k =
+      let g : ℕ → ℕ = guaranteeOf (view t) in
+      let l : ℕ → ℕ = limitOf (view t) in
+      let w = passed-told t counts rest left s f h in
+      record {
+        is = eq _ _ _ _ (sym e) (lt _ _ _ _ h refl);
+        inside =
+            λ q.
+            record {
+              ready = f .ready;
+              stands = e;
+              service = h;
+              there = λ y. let z = free-there (view t) (f .ready .fine) (gives-room placesInAll services g l (held (view t .places)) (f .shares) (f .sound) s h y) in
+                  (z, lowest-is-free (view t) (f .ready .fine) z);
+            };
+        may = λ q. k g l (held (view t .places)) s
+            (record { service = w .service; counted = a ∙ w .counted; guaranteed = b ∙ w .guaranteed; limited = c ∙ w .limited; kept = w .kept; remain = w .remain });
+      }
+
+module _ (t : List ℕ) (s d : ℕ) where
+  pub meets-not : (n : ℕ) (m : Bool) (p : ℕ) → Enters t s n m → 0 < n → Meets t s d n p
+  unfolding entryAt
+  meets-not n m p i h = record { is = ne _ _ _ _ (λ q. omega (arith, i .is, q)) (i .is); inside = λ q. absurd (omega arith) }
+
+  module _ (m : Bool) (i : Enters t s 0 m) where
+    pub meets-none : (p : ℕ) → false ≡ owns (view t) s d → Meets t s d 5 p
+    unfolding entryAt
+    meets-none p w = record { is = eq _ _ _ _ (sym (i .is)) (no _ _ _ (sym w) refl); inside = λ q. absurd (omega arith) }
+
+    pub meets : true ≡ owns (view t) s d → (p : ℕ) → p ≡ placeOf d → Meets t s d 0 p
+    unfolding entryAt
+    meets w p e =
+        let j = i .inside refl in
+        let o = owned-is (view t) s d (sym w) in
+        record {
+          is = eq _ _ _ _ (sym (i .is)) (yes _ _ _ (sym w) refl);
+          inside =
+              λ q.
+              record {
+                stands = j .stands;
+                service = j .service;
+                owner = sym w;
+                place = e;
+                used =
+                    record {
+                      ready = j .ready;
+                      small = omega (arith, e, o .small);
+                      told = ap (λ (k : ℕ). flag (placeAt (view t) k)) e ∙ o .used;
+                      state = subst (λ (k : ℕ). placeAt (view t) k .control .state ≡ 0 → ⊥) (sym e) (o .state);
+                      fine = j .ready .fine .each p (omega (arith, e, o .small));
+                    };
+              };
+        }
+
+-- a control record that can be stored at a dialogue's place
+pub used-storing : {t : List ℕ} {p : ℕ} → Used t p → {c : Control} → Storable c → (c .state ≡ 0 → ⊥) → Storing 0 t p c
+used-storing u f n = record { ready = u .ready; small = u .small; told = u .told; control = f; state = n }

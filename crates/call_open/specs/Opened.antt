@@ -1,0 +1,52 @@
+-- AN OPEN: what it gives, by the share rule. Assumes nothing.
+use mathlib.Core.Path.{_≡_, refl, sym, ap, _∙_}
+use mathlib.Core.Bool.{true, false}
+use mathlib.Core.List.{List, []}
+use Prim.Native.Nat.{ℕ, _<_}
+use native.Mathlib.Omega.{arith}
+use lib.ListN.{replicate}
+use Rattle.laws.specs.If.{yes, no}
+use Rattle.paper.specs.Sizes.{localID}
+use Rattle.paper.specs.Dialogues.{begun, dialogueOpen}
+use Rattle.paper.specs.Calls.{Out, placeAt, withPlace, mayBegin, lowestFree, openedAt, opened}
+use Rattle.paper.specs.Calls.Call.{Open}
+use Rattle.paper.specs.Layout.{flag, encode, view}
+use Rattle.paper.specs.Outcome.{outcome}
+use Rattle.table_laws.specs.Storables.{storable-begun}
+use Rattle.table_places.specs.Storing.{Storing, withWaiting}
+use Rattle.call_entry.specs.declared.Reply.{Reply}
+use Rattle.call_entry.specs.Replies.{reply, Told}
+use Rattle.call_entry.specs.Prologue.{InService}
+use Rattle.call_entry.specs.Ends.{no-rows}
+use Rattle.call_entry.specs.Ends as ends
+
+module _ (t : List ℕ) (s : ℕ) (i : InService t s) where
+  -- "open request without a place (demand 3)"
+  pub open-no : mayBegin (view t) s ≡ false → {r : Reply} → r ≡ reply 7 0 0 0 → Told (outcome (record { table = t; rows = []; space = [] }) (Open s)) r (record { table = t; rows = []; space = [] })
+  unfolding opened
+  open-no m d = ends.open-no (record { table = t; rows = []; space = [] }) s (omega arith, omega arith) i 7 (sym (no _ _ _ m refl)) (omega arith) d
+
+  module _ (m : mayBegin (view t) s ≡ true) (p : ℕ) (e : p ≡ lowestFree (view t)) where
+    pub open-there : (p < 128) × (flag (placeAt (view t) p) ≡ 1)
+    open-there = (omega (arith, e, i .there m .0), ap (λ (k : ℕ). flag (placeAt (view t) k)) e ∙ i .there m .1)
+
+    pub open-storing : (turn : ℕ) → Storing 1 t p (begun turn dialogueOpen s 0 (replicate 4 0))
+    open-storing turn = record {
+      ready = i .ready;
+      small = open-there .0;
+      told = open-there .1;
+      control = storable-begun turn dialogueOpen s 0 (replicate 4 0) refl;
+      state = λ z. omega arith;
+    }
+
+    pub open-done : (id turn : ℕ) (u : List ℕ) → id ≡ localID p (placeAt (view t) p .control .turn) → turn ≡ placeAt (view t) p .control .turn
+        → u ≡ encode (withPlace (view t) p (withWaiting (begun turn dialogueOpen s 0 (replicate 4 0)) [])) → {r : Reply} → r ≡ reply 0 0 0 id
+        → Told (outcome (record { table = t; rows = []; space = [] }) (Open s)) r (record { table = u; rows = []; space = [] })
+    unfolding opened
+    open-done id turn u a b c d =
+        let o : Out = openedAt (view t) s p in
+        ends.open-done (record { table = t; rows = []; space = [] }) s (omega arith, omega arith) i o (sym (yes _ _ _ m refl) ∙ ap (openedAt (view t) s) (sym e)) refl
+        (d ∙ ap (reply 0 0 0) a)
+        (ap (λ (y : List ℕ). record { table = y; rows = []; space = [] })
+        (c ∙ ap (λ (n : ℕ). encode (withPlace (view t) p (withWaiting (begun n dialogueOpen s 0 (replicate 4 0)) []))) b)
+        ∙ ap (λ (y : List ℕ). record { table = encode (o .table); rows = y; space = [] }) (no-rows []))

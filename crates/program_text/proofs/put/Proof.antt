@@ -1,0 +1,23 @@
+use native.Mathlib.Omega.{arith}
+use lib.ListN.{length-set}
+use borrow.Author.Needs.{needs}
+use Rattle.program_text.proofs.put.Statement.{statement}
+use Rattle.program_text.proofs.put.Tie as tie
+
+returns : tie.Need-returns
+returns c = search needs
+
+slice-write-out : tie.Need-slice-write-out
+slice-write-out c = search needs
+
+add-result : tie.Need-add-result
+add-result c = search needs
+
+same-length : tie.Need-same-length
+same-length c = search needs
+
+returns-2 : tie.Need-returns-2
+returns-2 c = simp length-set (omega arith)
+
+pub put-spec : {M : Type 1} → statement M
+put-spec = tie.close (tie.spec returns slice-write-out add-result same-length returns-2)

@@ -1,0 +1,158 @@
+-- A PLACE BY ITS OCTETS, in the steps that the code takes: its eight invocations, its eight rejects, its kind. Assumes nothing.
+use mathlib.Core.Path.{_≡_, refl, sym, ap, subst, _∙_}
+use mathlib.Core.Bool.{Bool, true, false, cond}
+use mathlib.Core.List.{List}
+use Prim.Native.Nat.{ℕ, _+_, _*_, _-_, _≤_, _<_}
+use native.Mathlib.Omega.{arith}
+use lib.Dec.{eqb, ltb}
+use borrow.Author.Tests.{lt-ltb, ne-eqb}
+use lib.ListN.{length, getD, take, drop}
+use Rattle.laws.specs.If.{ifLt, ifEq, ifB, eq, ne, yes, no, was-lt, was-ge, was-eq, was-yes, true-false}
+use Rattle.laws.specs.Lists.{zeros}
+use Rattle.paper.specs.declared.Invocation.{Invocation}
+use Rattle.paper.specs.declared.Reject.{Reject}
+use Rattle.paper.specs.Invocations.{slotOf}
+use Rattle.paper.specs.Layout.{invocationBy, invocationsAt, rejectBy, rejectsAt, controlBy, placeBy, slot, mapBit}
+use Rattle.table_laws.specs.Slots.{slotKept}
+use Rattle.paper.specs.Rules.{freeKept, usedKept, placeKept, controlKept, peerKept, invocationKept, differs, invocationsKept, rejectKept, rejectZero, rejectsKept, waitingKept}
+
+-- the invocation at index i, and those from it on
+abbrev pub invocationNo : List ℕ → ℕ → Invocation
+invocationNo s i = invocationBy (getD s (12 + 2 * i) 0) (getD s (12 + 2 * i + 1) 0)
+
+abbrev pub invocationsFrom : ℕ → List ℕ → List Invocation
+invocationsFrom i s = invocationsAt (8 - i) (12 + 2 * i) s
+
+unfoldable pub noneOpen : ℕ → List Invocation → Bool
+noneOpen id l = eqb (slotOf l id) (length l)
+
+unfoldable pub invocationAtKept : List ℕ → ℕ → Bool
+invocationAtKept s i = ifB (invocationKept (invocationNo s i)) (differs (invocationNo s i) (invocationsFrom (i + 1) s)) false
+
+-- those from index n on are not in use
+pub record IdleFrom (n : ℕ) (s : List ℕ) : Type 0 where
+  pub few : n ≤ 8
+  pub zero : (i : ℕ) → i < 2 * (8 - n) → getD s (12 + 2 * n + i) 0 ≡ 0
+
+-- likewise the rejects, of which n wait
+abbrev pub rejectNo : List ℕ → ℕ → Reject
+rejectNo s i = rejectBy (getD s (28 + 2 * i) 0) (getD s (28 + 2 * i + 1) 0)
+
+abbrev pub rejectsFrom : ℕ → List ℕ → List Reject
+rejectsFrom i s = rejectsAt (8 - i) (28 + 2 * i) s
+
+unfoldable pub rejectAtKept : ℕ → ℕ → List ℕ → Bool
+rejectAtKept n i s = ifLt i n (rejectKept (rejectNo s i)) (rejectZero (rejectNo s i))
+
+-- n waiting octets, and zeros after them
+unfoldable pub octetsKept : ℕ → List ℕ → Bool
+octetsKept n s = ifB (zeros (drop (44 + n) s)) (waitingKept (take n (drop 44 s))) false
+
+-- a dialogue's octets in two parts: the control record but its rejects; the rejects and the waiting octets
+unfoldable pub headKept : List ℕ → Bool
+headKept s =
+    ifLt 4 (getD s 3 0) false
+    (ifLt (getD s 4 0) 16 (ifB (peerKept (controlBy s)) (ifLt 8 (getD s 11 0) false (invocationsKept (invocationsFrom 0 s))) false) false)
+
+unfoldable pub tailKept : List ℕ → Bool
+tailKept s = ifB (rejectsKept (getD s 11 0) (rejectsFrom 0 s)) (ifLt 240 (getD s 10 0) false (octetsKept (getD s 10 0) s)) false
+
+pub used-parts : (s : List ℕ) (bit : ℕ) → usedKept s bit ≡ ifEq bit 0 (ifB (headKept s) (tailKept s) false) false
+unfolding usedKept placeBy controlKept headKept tailKept octetsKept ifLt ifB
+used-parts s bit =
+    ap (λ (b : Bool). ifEq bit 0 b false)
+    (go (ltb 4 (getD s 3 0)) (ltb (getD s 4 0) 16) (peerKept (controlBy s)) (ltb 8 (getD s 11 0)) (invocationsKept (invocationsFrom 0 s)) (rejectsKept (getD s 11 0) (rejectsFrom 0 s)) _)
+  where
+    go : (a b c d e f x : Bool) → cond (cond a false (cond b (cond c (cond d false (cond e f false)) false) false)) x false
+        ≡ cond (cond a false (cond b (cond c (cond d false e) false) false)) (cond f x false) false
+    go true b c d e f x = refl
+    go false false c d e f x = refl
+    go false true false d e f x = refl
+    go false true true true e f x = refl
+    go false true true false true f x = refl
+    go false true true false false f x = refl
+
+-- A PLACE'S KIND: its service, 16 free, 17 where it breaks a rule
+unfoldable pub kindOf : List ℕ → ℕ → ℕ
+kindOf s bit = ifEq (getD s 3 0) 0 (ifB (freeKept s bit) 16 17) (ifB (usedKept s bit) (getD s 4 0) 17)
+
+unfoldable pub kindAt : List ℕ → ℕ → ℕ
+kindAt t p = kindOf (slot t p) (mapBit t p)
+
+-- what a used place's rules say of its octets
+pub used-service : (s : List ℕ) (bit : ℕ) → usedKept s bit ≡ true → getD s 4 0 < 16
+unfolding usedKept placeBy controlKept
+used-service s bit e =
+    let a = was-eq _ _ _ _ (sym e) true-false in
+    let b = was-yes _ _ _ (a .1) true-false in
+    let c = was-ge _ _ _ _ (sym (b .0)) true-false in
+    was-lt _ _ _ _ (c .1) true-false .0
+
+pub used-bit : (s : List ℕ) (bit : ℕ) → usedKept s bit ≡ true → bit ≡ 0
+unfolding usedKept
+used-bit s bit e = was-eq _ _ _ _ (sym e) true-false .0
+
+pub free-bit : (s : List ℕ) (bit : ℕ) → freeKept s bit ≡ true → bit ≡ 1
+unfolding freeKept
+free-bit s bit e = was-eq _ _ _ _ (sym e) true-false .0
+
+-- what a kind below 17 tells: free, or a service's
+pub record Kept (s : List ℕ) (bit kind : ℕ) : Type 0 where
+  pub free : getD s 3 0 ≡ 0 → (kind ≡ 16) × (bit ≡ 1)
+  pub used : (getD s 3 0 ≡ 0 → ⊥) → (kind ≡ getD s 4 0) × (bit ≡ 0) × (kind < 16)
+
+kind-kept : (s : List ℕ) (bit : ℕ) → slotKept s bit ≡ ltb (kindOf s bit) 17
+unfolding kindOf ifEq ifB
+kind-kept s bit = go (eqb (getD s 3 0) 0) (freeKept s bit) (usedKept s bit) (used-service s bit)
+  where
+    go : (z f u : Bool) → (u ≡ true → getD s 4 0 < 16) → cond z f u ≡ ltb (cond z (cond f 16 17) (cond u (getD s 4 0) 17)) 17
+    go true true u h = refl
+    go true false u h = refl
+    go false f true h = sym (lt-ltb (getD s 4 0) 17 (omega (arith, h refl)))
+    go false f false h = refl
+
+-- free by its kind: a used one's is below 16, a broken one's 17
+pub kind-used : (s : List ℕ) (bit : ℕ) → (getD s 3 0 ≡ 0 → ⊥) → false ≡ eqb (kindOf s bit) 16
+unfolding kindOf ifB
+kind-used s bit n =
+    sym (ap (λ (k : ℕ). eqb k 16) (sym (ne _ _ _ _ n refl)) ∙ go (usedKept s bit) (used-service s bit))
+  where
+    go : (u : Bool) → (u ≡ true → getD s 4 0 < 16) → eqb (cond u (getD s 4 0) 17) 16 ≡ false
+    go true h = ne-eqb (getD s 4 0) 16 (λ q. omega (arith, h refl, q))
+    go false h = refl
+
+pub kind-free : (s : List ℕ) (bit : ℕ) → getD s 3 0 ≡ 0 → freeKept s bit ≡ eqb (kindOf s bit) 16
+unfolding kindOf ifB
+kind-free s bit z = sym (ap (λ (k : ℕ). eqb k 16) (sym (eq _ _ _ _ z refl)) ∙ go (freeKept s bit))
+  where
+    go : (f : Bool) → eqb (cond f 16 17) 16 ≡ f
+    go true = refl
+    go false = refl
+
+pub kind-broken : (s : List ℕ) (bit : ℕ) → getD s 3 0 ≡ 0 → (kindOf s bit ≡ 16 → ⊥) → 17 ≡ kindOf s bit
+unfolding kindOf
+kind-broken s bit z n = eq _ _ _ _ z (go (freeKept s bit) refl)
+  where
+    go : (f : Bool) → freeKept s bit ≡ f → _≡_ {A = ℕ} 17 (ifB (freeKept s bit) 16 17)
+    go true q = absurd (n (sym (eq _ _ _ _ z (yes _ _ _ q refl))))
+    go false q = no _ _ _ q refl
+
+pub place-kept : (t : List ℕ) (p : ℕ) → placeKept t p ≡ ltb (kindAt t p) 17
+unfolding placeKept kindAt
+place-kept t p = kind-kept (slot t p) (mapBit t p)
+
+pub kept-told : (s : List ℕ) (bit : ℕ) → slotKept s bit ≡ true → Kept s bit (kindOf s bit)
+unfolding kindOf
+kept-told s bit e = record {
+  free = λ z.
+      let f : freeKept s bit ≡ true = eq _ _ _ _ z refl ∙ e in
+      (sym (eq _ _ _ _ z (yes _ _ _ f refl)), free-bit s bit f);
+  used = λ n.
+      let u : usedKept s bit ≡ true = ne _ _ _ _ n refl ∙ e in
+      let k : ifEq (getD s 3 0) 0 (ifB (freeKept s bit) 16 17) (ifB (usedKept s bit) (getD s 4 0) 17) ≡ getD s 4 0 = sym (ne _ _ _ _ n (yes _ _ _ u refl)) in
+      (k, used-bit s bit u, subst (λ (x : ℕ). x < 16) (sym k) (used-service s bit u));
+}
+
+pub kept-at : (t : List ℕ) (p : ℕ) → placeKept t p ≡ true → Kept (slot t p) (mapBit t p) (kindAt t p)
+unfolding placeKept kindAt
+kept-at t p e = kept-told (slot t p) (mapBit t p) e
