@@ -18,7 +18,8 @@ use Rattle.paper.specs.Problems.{noProblem}
 use Rattle.paper.specs.Messages.{abortTag, noRun}
 use Rattle.paper.specs.Components.{Item, items, components, componentAt, goOn, nextStart}
 use Rattle.paper.specs.Writing.{tlv, causeAbortOctets}
-use Rattle.paper.specs.Rows.{dialogueRow, rowOctets, rowsOctets, componentRows, allActed, rowUni, rowBegin, rowContinue, rowEnd, rowUserAbort, rowAbort}
+use Rattle.paper.specs.Kinds.{rowUni, rowBegin, rowContinue, rowEnd, rowUserAbort, rowAbort}
+use Rattle.paper.specs.Rows.{dialogueRow, rowOctets, rowsOctets, componentRows, allActed}
 use Rattle.paper.specs.Dialogues.{begun, freed, withControl, emptyControl, dialogueReceived}
 use Rattle.paper.specs.Calls.{Table, Out, refuse, shows, placeAt, withPlace, owns, octetsAt, destinationNumber, assigned, faultedAt, faulted, itemsOf, uniReceived, begunControl, beginAt, continuedControl, continueReceived, endReceived, abortReceived, lowestFree, mayBegin}
 use Rattle.paper.specs.Layout.{encode, view}

@@ -14,7 +14,8 @@ use Rattle.paper.specs.declared.Row.{Row}
 use Rattle.paper.specs.Sizes.{placeOf, localID}
 use Rattle.paper.specs.Problems.{noProblem}
 use Rattle.paper.specs.Messages.{messageOf, isSound, beginTag, continueTag, noRun}
-use Rattle.paper.specs.Rows.{allActed, componentRows, dialogueRow, cancelRow, rowUni, rowBegin, rowContinue, rowEnd, rowUserAbort, rowAbort}
+use Rattle.paper.specs.Kinds.{rowUni, rowBegin, rowContinue, rowEnd, rowUserAbort, rowAbort}
+use Rattle.paper.specs.Rows.{allActed, componentRows, dialogueRow, cancelRow}
 use Rattle.paper.specs.Dialogues.{Place, Request, Invoke, Result, Error, UserReject, Cancel, Begin, Continue, End, Prearranged, Abort, Unidirectional, Timeout, RejectTimeout, NoReaction, Done, emptyControl, begun, freed, withControl, timeoutRows, unlessRefused, refusal, does, request}
 use Rattle.paper.specs.Calls.{Table, placeAt, withPlace, lowestFree, Out, stored, requested, opened, octetsAt, destinationNumber, assigned, faultedAt, faulted, itemsOf, uniReceived, begunControl, beginAt, beginReceived, continuedControl, continueReceived, endReceived, abortReceived, toDialogue, soundReceived, received, receivedIf, Call, Open, OnDialogue, Receive, refuse, ofService, step, held}
 use Rattle.reading_messages.specs.Bounds.{MessageIn, message-in}

@@ -17,7 +17,8 @@ use Rattle.paper.specs.Components.{Item}
 use Rattle.paper.specs.Writing.{Written}
 use Rattle.paper.specs.Dialogues.{peerOf}
 use Rattle.paper.specs.Invocations.{toState, toIdle, notLastShown, acted, rejected, answerKind, answersSent, answers, invokes, released, rejectKind, rejects, faultyReject, faults, act}
-use Rattle.paper.specs.Rows.{signed, componentRow, rowBy, allActed, componentRows, rowRejected}
+use Rattle.paper.specs.Kinds.{rowRejected}
+use Rattle.paper.specs.Rows.{signed, componentRow, rowBy, allActed, componentRows}
 use Rattle.paper.specs.Ledger.{unsigned, rejectsIn}
 use Rattle.table_laws.specs.Fine.{FineControl}
 use Rattle.demand_kept.specs.Leaves.{whether-eq, whether-lt, whether-b}

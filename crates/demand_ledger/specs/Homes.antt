@@ -15,7 +15,8 @@ use Rattle.paper.specs.declared.Row.{Row}
 use Rattle.paper.specs.Sizes.{services, placeOf, idOctets}
 use Rattle.paper.specs.Problems.{noProblem}
 use Rattle.paper.specs.Messages.{messageOf, isSound, noRun, uniTag, beginTag, endTag, continueTag}
-use Rattle.paper.specs.Rows.{dialogueRow, rowContinue, rowEnd, rowUserAbort, rowAbort}
+use Rattle.paper.specs.Kinds.{rowContinue, rowEnd, rowUserAbort, rowAbort}
+use Rattle.paper.specs.Rows.{dialogueRow}
 use Rattle.paper.specs.Calls.{Table, Out, placeAt, octetsAt, numberAt, destinationNumber, assigned, faulted, continueReceived, endReceived, abortReceived, toDialogue, soundReceived, received, receivedIf, step}
 use Rattle.paper.specs.Calls.Call.{Receive}
 use Rattle.paper.specs.Ledger.{Entry, Ledger, find, forService, addressee}

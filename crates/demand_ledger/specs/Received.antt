@@ -17,7 +17,8 @@ use Rattle.paper.specs.Problems.{noProblem}
 use Rattle.paper.specs.Messages.{messageOf, isSound, noRun, uniTag, beginTag, continueTag}
 use Rattle.paper.specs.Writing.{Written, joined, causeAbortOctets}
 use Rattle.paper.specs.Portions.{Spoken}
-use Rattle.paper.specs.Rows.{dialogueRow, componentRows, allActed, rowUni, rowBegin, rowContinue, rowEnd, rowUserAbort, rowAbort}
+use Rattle.paper.specs.Kinds.{rowUni, rowBegin, rowContinue, rowEnd, rowUserAbort, rowAbort}
+use Rattle.paper.specs.Rows.{dialogueRow, componentRows, allActed}
 use Rattle.paper.specs.Shares.{gives}
 use Rattle.paper.specs.Dialogues.{Place, freed, peerOf, withControl}
 use Rattle.paper.specs.Calls.{Table, Out, placeAt, withPlace, limitOf, held, mayBegin, lowestFree, owns, octetsAt, destinationNumber, assigned, faultedAt, faulted, itemsOf, uniReceived, begunControl, beginAt, beginReceived, continuedControl, continueReceived, endReceived, abortReceived, toDialogue, soundReceived, received}

@@ -17,7 +17,7 @@ use Rattle.paper.specs.declared.Row.{Row}
 use Rattle.paper.specs.Sizes.{placesInAll, services, placeOf, turnOf, idOctets}
 use Rattle.paper.specs.Shares.{gives, others, free}
 use Rattle.paper.specs.Messages.{messageOf, isSound, uniTag, beginTag}
-use Rattle.paper.specs.Rows.{rowBegin}
+use Rattle.paper.specs.Kinds.{rowBegin}
 use Rattle.paper.specs.Writing.{causeAbortOctets}
 use Rattle.paper.specs.Portions.{Spoken, partsIn, portionAt}
 use Rattle.paper.specs.Invocations.{sent, wait, invocationOf, stateOf}

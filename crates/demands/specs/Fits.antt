@@ -15,7 +15,8 @@ use Rattle.paper.specs.Problems.{noProblem}
 use Rattle.paper.specs.Components.{Item, components}
 use Rattle.paper.specs.Messages.{messageOf, noRun, isSound, isDropped, uniTag, beginTag, endTag, continueTag}
 use Rattle.paper.specs.Invocations.{invocationOf}
-use Rattle.paper.specs.Rows.{dialogueRow, cancelRow, componentRows, rowUni, rowBegin, rowContinue, rowEnd, rowUserAbort, rowAbort}
+use Rattle.paper.specs.Kinds.{rowUni, rowBegin, rowContinue, rowEnd, rowUserAbort, rowAbort}
+use Rattle.paper.specs.Rows.{dialogueRow, cancelRow, componentRows}
 use Rattle.paper.specs.Dialogues.{Place, Request, refusal, does, request, unlessRefused, timeoutRows, emptyControl}
 use Rattle.paper.specs.Dialogues.Request.{Invoke, Result, Error, UserReject, Cancel, Begin, Continue, End, Prearranged, Abort, Unidirectional, Timeout, RejectTimeout, NoReaction}
 use Rattle.paper.specs.Calls.{Table, Call, Out, stored, requested, opened, owns, mayBegin, lowestFree, destinationNumber, itemsOf, shownRows, faultedAt, faulted, uniReceived, beginAt, beginReceived, continueReceived, endReceived, abortReceived, toDialogue, soundReceived, received, receivedIf, step, placeAt}

@@ -1,4 +1,5 @@
 pub mod If
+pub mod Fields
 pub mod Picks
 pub mod Sums
 pub mod Lists

@@ -17,7 +17,8 @@ use Rattle.paper.specs.Problems.{noProblem}
 use Rattle.paper.specs.Components.{Item, components}
 use Rattle.paper.specs.Messages.{messageOf, isSound, isDropped, noRun, uniTag, beginTag, endTag, continueTag}
 use Rattle.paper.specs.Writing.{causeAbortOctets}
-use Rattle.paper.specs.Rows.{dialogueRow, componentRows, allActed, rowUni, rowBegin, rowContinue, rowEnd, rowUserAbort, rowAbort}
+use Rattle.paper.specs.Kinds.{rowUni, rowBegin, rowContinue, rowEnd, rowUserAbort, rowAbort}
+use Rattle.paper.specs.Rows.{dialogueRow, componentRows, allActed}
 use Rattle.paper.specs.Shares.{gives}
 use Rattle.paper.specs.Dialogues.{Place, Request, Done, request, emptyPlace, emptyControl, freed, begun, withControl, dialogueFree, dialogueOpen, dialogueSent, dialogueReceived, dialogueActive}
 

@@ -11,7 +11,7 @@ use Rattle.paper.specs.declared.Reading.{Reading}
 use Rattle.paper.specs.declared.Reading.the-variants.{Ends, Fault}
 use Rattle.paper.specs.declared.Frame.{Frame}
 use Rattle.paper.specs.declared.Component.{Component}
-use Rattle.paper.specs.Sizes.{depths}
+use Rattle.paper.specs.Sizes.{depths, depthsFrom}
 use Rattle.paper.specs.Elements.{lengthAt, element, frameAt}
 use Rattle.paper.specs.Problems.{senderOf, byNobody, problem, noProblem}
 
@@ -38,9 +38,13 @@ knownTag t = ifEq t invokeTag true (ifEq t lastTag true (ifEq t errorTag true (i
 abbrev pub noID : ℕ
 noID = 256
 
+-- what a component's fault is where it has none; else it is the code of a general problem
+abbrev pub noFault : ℕ
+noFault = 3
+
 -- a component that is sound, with its parameter from q to r
 abbrev pub sound : ℕ → ℕ → ℕ → ℕ → ℕ → ℕ → ℕ → Component
-sound t id l p x q r = record { tag = t; id = id; linked = l; problem = p; fault = 3; stop = x; par = q; parstop = r }
+sound t id l p x q r = record { tag = t; id = id; linked = l; problem = p; fault = noFault; stop = x; par = q; parstop = r }
 
 -- one with a syntax fault: the general problem's code, and the problem's tag as far as it was read
 abbrev pub faulty : ℕ → ℕ → ℕ → ℕ → ℕ → Component
@@ -74,7 +78,7 @@ unfoldable pub lastPiece : List ℕ → ℕ → ℕ → ℕ → ℕ → ℕ → 
 lastPiece s t id l x e q =
     ifEq q 0 (faulty t id noProblem 1 x)
     (ifEq q e (sound t id l noProblem x 0 0)
-    (ifB (oneElement s 15 e q) (sound t id l noProblem x q e) (faulty t id noProblem 1 x)))
+    (ifB (oneElement s (depthsFrom 2) e q) (sound t id l noProblem x q e) (faulty t id noProblem 1 x)))
 
 -- the linked ID stands after the invoke ID, at p; the operation after it
 unfoldable pub invokePieces : List ℕ → ℕ → ℕ → ℕ → ℕ → Component
@@ -86,15 +90,15 @@ invokePieces s id x e p =
 unfoldable pub resultBoth : List ℕ → ℕ → ℕ → ℕ → ℕ → ℕ → Component
 resultBoth s t id x e q =
     ifEq q 0 (faulty t id noProblem 1 x)
-    (ifB (oneElement s 14 e q) (sound t id noID noProblem x q e) (faulty t id noProblem 1 x))
+    (ifB (oneElement s (depthsFrom 3) e q) (sound t id noID noProblem x q e) (faulty t id noProblem 1 x))
 
 -- "result 30 holding operation and parameter"; "Invoke, result and error may lack it; a result lacks the whole 30 then"
 unfoldable pub resultPieces : List ℕ → ℕ → ℕ → ℕ → ℕ → ℕ → Component
 resultPieces s t id x e p =
     ifEq p e (sound t id noID noProblem x 0 0)
     (ifEq (getD s p 0) 0x30
-    (ifB (oneElement s 15 e p)
-    (resultBoth s t id x (frameAt s 15 e p .to) (codeEnd s (frameAt s 15 e p .to) (frameAt s 15 e p .from)))
+    (ifB (oneElement s (depthsFrom 2) e p)
+    (resultBoth s t id x (frameAt s (depthsFrom 2) e p .to) (codeEnd s (frameAt s (depthsFrom 2) e p .to) (frameAt s (depthsFrom 2) e p .from)))
     (faulty t id noProblem 1 x))
     (faulty t id noProblem 1 x))
 
@@ -174,7 +178,7 @@ item s lim at = record { start = at; part = componentAt s lim at }
 
 -- "Later components of the message are discarded": a fault ends the reading
 unfoldable pub nextStart : ℕ → Component → ℕ
-nextStart lim c = ifEq (c .fault) 3 (c .stop) lim
+nextStart lim c = ifEq (c .fault) noFault (c .stop) lim
 
 abbrev pub goOn : {A : Type 0} → Bool → (Unit {0} → List A) → List A
 goOn true k = k tt

@@ -4,7 +4,7 @@ use Prim.Native.Nat.{ℕ, zero, suc, _+_}
 use Rattle.laws.specs.If.{ifEq}
 use Rattle.laws.specs.Sums.{sumBy}
 use Rattle.paper.specs.declared.Row.{Row}
-use Rattle.paper.specs.Rows.{rowBegin, rowEnd, rowUserAbort, rowAbort}
+use Rattle.paper.specs.Kinds.{rowBegin, rowEnd, rowUserAbort, rowAbort}
 use Rattle.paper.specs.Dialogues.{Request}
 use Rattle.paper.specs.Dialogues.Request.{Invoke, Result, Error, UserReject, Cancel, Begin, Continue, End, Prearranged, Abort, Unidirectional, Timeout, RejectTimeout, NoReaction}
 use Rattle.paper.specs.Calls.{Call, Out}

@@ -10,15 +10,16 @@ use Rattle.laws.specs.Lists.{every}
 use Rattle.paper.specs.declared.Reject.{Reject}
 use Rattle.paper.specs.declared.Control.{Control}
 use Rattle.paper.specs.declared.Row.{Row}
-use Rattle.paper.specs.Sizes.{mostInvocations, mostWaiting, mostRejects, depths, nextTurn, idOctets}
+use Rattle.paper.specs.Sizes.{mostInvocations, mostWaiting, mostRejects, depths, depthsFrom, nextTurn, idOctets}
 use Rattle.paper.specs.Elements.{isElement}
 use Rattle.paper.specs.Problems.{senderOfProblem, byUser, kindOf, noProblem}
-use Rattle.paper.specs.Components.{Item, components, codeEnd, invokeTag}
+use Rattle.paper.specs.Components.{Item, components, codeEnd, invokeTag, noFault}
 use Rattle.paper.specs.Messages.{noRun}
 use Rattle.paper.specs.Writing.{invokeOctets, resultOctets, errorOctets, rejectOctets, beginOctets, continueOctets, endOctets, uniOctets, userAbortOctets}
 use Rattle.paper.specs.Portions.{Form, aarq, aare, abrt, audt, portionBy}
 use Rattle.paper.specs.Invocations.{idle, sent, wait, rejecting, noInvocation, idleSlot, invocationOf, stateOf, toState, toIdle, passed, allTransmitted, mayReject}
-use Rattle.paper.specs.Rows.{dialogueRow, cancelRow, rowAbort}
+use Rattle.paper.specs.Kinds.{rowAbort}
+use Rattle.paper.specs.Rows.{dialogueRow, cancelRow}
 
 -- the states; 0 is a free place
 abbrev pub dialogueFree : ℕ
@@ -122,11 +123,11 @@ isCode l = ifEq (length l) 0 false (eqb (codeEnd l (length l) 0) (length l))
 
 -- a parameter of an invoke or error, depth 2, or none
 unfoldable pub isParameter : List ℕ → Bool
-isParameter l = ifEq (length l) 0 true (isElement 15 l)
+isParameter l = ifEq (length l) 0 true (isElement (depthsFrom 2) l)
 
 -- "only one of a result's operation and parameter"; the parameter is in the 30, depth 3
 unfoldable pub isResult : List ℕ → List ℕ → Bool
-isResult op par = ifEq (length op) 0 (eqb (length par) 0) (ifB (isCode op) (isElement 14 par) false)
+isResult op par = ifEq (length op) 0 (eqb (length par) 0) (ifB (isCode op) (isElement (depthsFrom 3) par) false)
 
 -- "a whole 6B element or none"
 unfoldable pub isPortion : List ℕ → Bool
@@ -138,7 +139,7 @@ isName l = ifEq (length l) 0 true (ifEq (getD l 0 0) 6 (isCode l) false)
 
 -- "user information (one BE element)", depth 5 in its portion
 unfoldable pub isBlock : List ℕ → Bool
-isBlock l = ifEq (getD l 0 0) 0xBE (isElement 12 l) false
+isBlock l = ifEq (getD l 0 0) 0xBE (isElement (depthsFrom 5) l) false
 
 unfoldable pub isInformation : List ℕ → Bool
 isInformation l = ifEq (length l) 0 true (isBlock l)
@@ -251,7 +252,7 @@ needsSent x = ifEq (x .control .state) dialogueSent 0 6
 -- "Unidirectional with no component or with one not of class 4" (answer 6): each waiting one is an invoke whose ID is open with class 4
 unfoldable pub ofClass4 : Control → Item → Bool
 ofClass4 c i =
-    ifEq (i .part .fault) 3
+    ifEq (i .part .fault) noFault
     (ifEq (i .part .tag) invokeTag (eqb (invocationOf (c .invocations) (i .part .id) .class) 4) false)
     false
 

@@ -12,7 +12,8 @@ use Rattle.paper.specs.declared.Reject.{Reject}
 use Rattle.paper.specs.declared.Control.{Control}
 use Rattle.paper.specs.declared.Acted.{Acted}
 use Rattle.paper.specs.Problems.{senderOfProblem, byUser, problem, general, kindOf, noProblem}
-use Rattle.paper.specs.Components.{invokeTag, lastTag, errorTag, rejectTag, notLastTag, noID}
+use Rattle.paper.specs.Kinds.{rowInvoke, rowLast, rowNotLast, rowError, rowUserReject, rowRemoteReject, rowRejected, rowNotStored}
+use Rattle.paper.specs.Components.{invokeTag, lastTag, errorTag, rejectTag, notLastTag, noID, noFault}
 
 -- "Idle, Pending (passed), Sent (transmitted), Wait (may be rejected), Rejecting"
 abbrev pub idle : ℕ
@@ -102,7 +103,7 @@ transmitted v = ifEq (v .state) pending (inState v sent) (ifEq (v .state) reject
 unfoldable pub allTransmitted : Control → Control
 allTransmitted c = withInvocations c (map transmitted (c .invocations))
 
--- COMPONENTS RECEIVED. The kinds of rows for them (01, "Rows").
+-- COMPONENTS RECEIVED, with the kinds of rows for them
 abbrev pub acted : Control → ℕ → ℕ → Acted
 acted c kind p = record { control = c; kind = kind; problem = p }
 
@@ -118,9 +119,9 @@ withReject c r = record {
   rejects = set (c .rejects) (c .count) r;
 }
 
--- a reject of ours: 13 stored, 14 not. "A ninth waiting reject, or one in Unidirectional or End, isn't stored": room is 8, there 0
+-- a reject of ours: stored, or not. "A ninth waiting reject, or one in Unidirectional or End, isn't stored": room is 8, there 0
 unfoldable pub rejected : ℕ → Control → ℕ → ℕ → Acted
-rejected room c id p = ifLt (c .count) room (acted (withReject c (record { id = id; problem = p })) 13 p) (acted c 14 p)
+rejected room c id p = ifLt (c .count) room (acted (withReject c (record { id = id; problem = p })) rowRejected p) (acted c rowNotStored p)
 
 -- "Class 1: A7 stays Sent; A2, A3 to Wait. Class 2: A3 to Wait. Class 3: A7 stays, A2 to Wait. Class 4: none."
 -- 1 stays, 2 to Wait, 0 none
@@ -131,7 +132,7 @@ takes class tag =
     (ifEq class 1 2 (ifEq class 2 2 0)))
 
 unfoldable pub answerKind : ℕ → ℕ
-answerKind tag = ifEq tag lastTag 8 (ifEq tag notLastTag 9 10)
+answerKind tag = ifEq tag lastTag rowLast (ifEq tag notLastTag rowNotLast rowError)
 
 -- result problems for A2 and A7, error problems for A3
 unfoldable pub answerProblem : ℕ → ℕ → ℕ
@@ -151,7 +152,7 @@ answers room c tag id = ifEq (stateOf c id) sent (answersSent room c tag id) (re
 -- "Linked invoke: the linked ID must be ours and Sent, else invoke code 5. Ours is unchanged." The invoke's own ID is the partner's.
 unfoldable pub invokes : ℕ → Control → ℕ → ℕ → Acted
 invokes room c id linked =
-    ifEq linked noID (acted c 7 noProblem) (ifEq (stateOf c linked) sent (acted c 7 noProblem) (rejected room c id (problem 1 5)))
+    ifEq linked noID (acted c rowInvoke noProblem) (ifEq (stateOf c linked) sent (acted c rowInvoke noProblem) (rejected room c id (problem 1 5)))
 
 -- its Sent invocation to Idle, other states unchanged
 unfoldable pub released : Control → ℕ → Control
@@ -159,7 +160,7 @@ released c id = ifEq (stateOf c id) sent (toIdle c id) c
 
 -- "A received reject is U-REJECT or R-REJECT by this list"
 unfoldable pub rejectKind : ℕ → ℕ
-rejectKind p = ifEq (senderOfProblem p) byUser 11 12
+rejectKind p = ifEq (senderOfProblem p) byUser rowUserReject rowRemoteReject
 
 -- "Received reject with invoke or general problem: Sent to Idle, other states unchanged. With result or error problem or 05 00: shown, no change."
 unfoldable pub rejects : Control → ℕ → ℕ → Acted
@@ -167,7 +168,7 @@ rejects c id p = ifLt (kindOf p) 2 (acted (released c id) (rejectKind p) p) (act
 
 -- "a faulty A4 is a local notice, never stored, and returns one to Idle only if ID and tag 81 can be read"; the row has our general code
 unfoldable pub faultyReject : Control → ℕ → ℕ → ℕ → Acted
-faultyReject c id p code = ifEq p noProblem (acted c 14 (general code)) (acted (released c id) 14 (general code))
+faultyReject c id p code = ifEq p noProblem (acted c rowNotStored (general code)) (acted (released c id) rowNotStored (general code))
 
 unfoldable pub isAnswer : ℕ → Bool
 isAnswer tag = ifEq tag lastTag true (ifEq tag errorTag true (eqb tag notLastTag))
@@ -182,7 +183,7 @@ faults room c p =
 -- WHAT A COMPONENT DOES
 unfoldable pub act : ℕ → Control → Component → Acted
 act room c p =
-    ifEq (p .fault) 3
+    ifEq (p .fault) noFault
     (ifEq (p .tag) invokeTag (invokes room c (p .id) (p .linked))
     (ifEq (p .tag) rejectTag (rejects c (p .id) (p .problem))
     (answers room c (p .tag) (p .id))))

@@ -1,13 +1,12 @@
--- THE OCTET FORM OF THE TABLE (docs/TABLE.md has the same numbers as a picture). Assumes nothing.
---     0 .. 15 the map, 16 .. 31 guarantees, 32 .. 47 limits, then 128 places of 284 octets: 36,400 in all
---     a place: 0 .. 2 turn, 3 state, 4 service, 5 length of the peer's ID, 6 .. 9 that ID, 10 length of the waiting octets,
---     11 number of waiting rejects, 12 .. 27 eight invocations, 28 .. 43 eight rejects, 44 .. 283 waiting octets
+-- THE OCTET FORM OF THE TABLE (docs/TABLE.md has it as a picture): each field is said once, in order, with its width and what it holds.
+-- Assumes nothing.
 use mathlib.Core.List.{List, [], _∷_, _++_, map}
 use Prim.Native.Nat.{ℕ, zero, suc, _+_, _*_, _-_, _/_, _%_}
 use lib.ListN.{length, getD, take, drop}
 use Rattle.laws.specs.If.{ifB}
 use Rattle.laws.specs.Lists.{tab, pad}
 use Rattle.laws.specs.Digits.{packedOctets, octetDigits}
+use Rattle.laws.specs.Fields.{Field, field, laidOut, total, offset}
 use Rattle.paper.specs.declared.Invocation.{Invocation}
 use Rattle.paper.specs.declared.Reject.{Reject}
 use Rattle.paper.specs.declared.Control.{Control}
@@ -16,20 +15,7 @@ use Rattle.paper.specs.Problems.{problem, kindOf, codeOf}
 use Rattle.paper.specs.Dialogues.{Place}
 use Rattle.paper.specs.Calls.{Table, isFree}
 
--- "The table has one fixed size, stated in docs/."
-abbrev pub tableSize : ℕ
-tableSize = 36400
-
-abbrev pub placeSize : ℕ
-placeSize = 284
-
-abbrev pub placeStart : ℕ → ℕ
-placeStart p = 48 + p * 284
-
-abbrev pub waitingStart : ℕ
-waitingStart = 44
-
--- WRITTEN. An invocation is two octets: its ID; state, class times 8, shown times 64
+-- An invocation is two octets: its ID; state, class times 8, shown times 64
 abbrev pub invocationOctets : List Invocation → List ℕ
 invocationOctets [] = []
 invocationOctets (v ∷ l) = v .id ∷ (v .state + v .class * 8 + v .shown * 64) ∷ invocationOctets l
@@ -39,13 +25,58 @@ abbrev pub waitingRejectOctets : List Reject → List ℕ
 waitingRejectOctets [] = []
 waitingRejectOctets (r ∷ l) = r .id % 256 ∷ (codeOf (r .problem) + kindOf (r .problem) * 8 + r .id / 256 * 128) ∷ waitingRejectOctets l
 
+-- A PLACE: turn, high first; state; service; length of the peer's ID, and that ID; length of the waiting octets; number of waiting
+-- rejects; the invocations; the rejects; the waiting octets
+abbrev pub placeFields : List (Field Place)
+placeFields =
+    field 3 (λ x. three (x .control .turn) [])
+    ∷ field 1 (λ x. x .control .state ∷ [])
+    ∷ field 1 (λ x. x .control .service ∷ [])
+    ∷ field 1 (λ x. x .control .peerlen ∷ [])
+    ∷ field 4 (λ x. x .control .peer)
+    ∷ field 1 (λ x. length (x .waiting) ∷ [])
+    ∷ field 1 (λ x. x .control .count ∷ [])
+    ∷ field (2 * mostInvocations) (λ x. invocationOctets (x .control .invocations))
+    ∷ field (2 * mostRejects) (λ x. waitingRejectOctets (x .control .rejects))
+    ∷ field mostWaiting (λ x. pad mostWaiting (x .waiting))
+    ∷ []
+
 abbrev pub placeOctets : Place → List ℕ
-placeOctets x =
-    three (x .control .turn)
-    (x .control .state ∷ x .control .service ∷ x .control .peerlen
-    ∷ (x .control .peer
-    ++ (length (x .waiting) ∷ x .control .count
-    ∷ (invocationOctets (x .control .invocations) ++ (waitingRejectOctets (x .control .rejects) ++ pad mostWaiting (x .waiting))))))
+placeOctets x = laidOut placeFields x
+
+abbrev pub placeSize : ℕ
+placeSize = total placeFields
+
+-- where each begins
+abbrev pub turnAt : ℕ
+turnAt = offset placeFields 0
+
+abbrev pub stateAt : ℕ
+stateAt = offset placeFields 1
+
+abbrev pub serviceAt : ℕ
+serviceAt = offset placeFields 2
+
+abbrev pub peerLengthAt : ℕ
+peerLengthAt = offset placeFields 3
+
+abbrev pub peerAt : ℕ
+peerAt = offset placeFields 4
+
+abbrev pub waitingLengthAt : ℕ
+waitingLengthAt = offset placeFields 5
+
+abbrev pub countAt : ℕ
+countAt = offset placeFields 6
+
+abbrev pub firstInvocation : ℕ
+firstInvocation = offset placeFields 7
+
+abbrev pub firstReject : ℕ
+firstReject = offset placeFields 8
+
+abbrev pub waitingStart : ℕ
+waitingStart = offset placeFields 9
 
 unfoldable pub allPlaces : List Place → List ℕ
 allPlaces [] = []
@@ -55,11 +86,35 @@ allPlaces (x ∷ ps) = placeOctets x ++ allPlaces ps
 unfoldable pub flag : Place → ℕ
 flag x = ifB (isFree x) 1 0
 
+abbrev pub mapSize : ℕ
+mapSize = placesInAll / 8
+
 abbrev pub mapOctets : List Place → List ℕ
-mapOctets ps = packedOctets 16 (map flag ps)
+mapOctets ps = packedOctets mapSize (map flag ps)
+
+-- THE TABLE: the map, the guarantees, the limits, the places. "The table has one fixed size, stated in docs/."
+abbrev pub tableFields : List (Field Table)
+tableFields =
+    field mapSize (λ T. mapOctets (T .places))
+    ∷ field services (λ T. T .guarantees)
+    ∷ field services (λ T. T .limits)
+    ∷ field (placesInAll * placeSize) (λ T. allPlaces (T .places))
+    ∷ []
+
+abbrev pub tableSize : ℕ
+tableSize = total tableFields
+
+abbrev pub guaranteesAt : ℕ
+guaranteesAt = offset tableFields 1
+
+abbrev pub limitsAt : ℕ
+limitsAt = offset tableFields 2
+
+abbrev pub placeStart : ℕ → ℕ
+placeStart p = offset tableFields 3 + p * placeSize
 
 unfoldable pub encode : Table → List ℕ
-encode T = mapOctets (T .places) ++ (T .guarantees ++ (T .limits ++ allPlaces (T .places)))
+encode T = laidOut tableFields T
 
 -- READ BACK
 abbrev pub invocationBy : ℕ → ℕ → Invocation
@@ -78,18 +133,18 @@ rejectsAt (suc n) a s = rejectBy (getD s a 0) (getD s (suc a) 0) ∷ rejectsAt n
 
 abbrev pub controlBy : List ℕ → Control
 controlBy s = record {
-  turn = getD s 0 0 * 65536 + getD s 1 0 * 256 + getD s 2 0;
-  state = getD s 3 0;
-  service = getD s 4 0;
-  peerlen = getD s 5 0;
-  peer = getD s 6 0 ∷ getD s 7 0 ∷ getD s 8 0 ∷ getD s 9 0 ∷ [];
-  count = getD s 11 0;
-  invocations = invocationsAt mostInvocations 12 s;
-  rejects = rejectsAt mostRejects 28 s;
+  turn = getD s turnAt 0 * 65536 + getD s (turnAt + 1) 0 * 256 + getD s (turnAt + 2) 0;
+  state = getD s stateAt 0;
+  service = getD s serviceAt 0;
+  peerlen = getD s peerLengthAt 0;
+  peer = getD s peerAt 0 ∷ getD s (peerAt + 1) 0 ∷ getD s (peerAt + 2) 0 ∷ getD s (peerAt + 3) 0 ∷ [];
+  count = getD s countAt 0;
+  invocations = invocationsAt mostInvocations firstInvocation s;
+  rejects = rejectsAt mostRejects firstReject s;
 }
 
 unfoldable pub placeBy : List ℕ → Place
-placeBy s = record { control = controlBy s; waiting = take (getD s 10 0) (drop waitingStart s) }
+placeBy s = record { control = controlBy s; waiting = take (getD s waitingLengthAt 0) (drop waitingStart s) }
 
 -- the octets of place p
 unfoldable pub slot : List ℕ → ℕ → List ℕ
@@ -97,11 +152,11 @@ slot t p = take placeSize (drop (placeStart p) t)
 
 unfoldable pub view : List ℕ → Table
 view t = record {
-  guarantees = take services (drop 16 t);
-  limits = take services (drop 32 t);
+  guarantees = take services (drop guaranteesAt t);
+  limits = take services (drop limitsAt t);
   places = tab placesInAll 0 (λ p. placeBy (slot t p));
 }
 
 -- bit p of the map
 unfoldable pub mapBit : List ℕ → ℕ → ℕ
-mapBit t p = getD (octetDigits (take 16 t)) p 0
+mapBit t p = getD (octetDigits (take mapSize t)) p 0

@@ -17,7 +17,7 @@ use Rattle.paper.specs.Components.{Item, noID}
 use Rattle.paper.specs.Messages.{messageOf, isSound, uniTag, beginTag, endTag, continueTag, abortTag}
 use Rattle.paper.specs.Writing.{Written, joined}
 use Rattle.paper.specs.Portions.{Form, aarq, aare, abrt, audt, portionBy, Spoken, spokenIn, spokenBy}
-use Rattle.paper.specs.Rows.{rowBegin, rowContinue, rowRejected}
+use Rattle.paper.specs.Kinds.{rowBegin, rowContinue, rowRejected}
 use Rattle.paper.specs.Shares.{gives}
 use Rattle.paper.specs.Dialogues.{Request, abortPortion, dialogueOpen, dialogueSent, dialogueReceived, dialogueActive}
 use Rattle.paper.specs.Dialogues.Request.{Invoke, Result, Error, UserReject, Cancel, Begin, Continue, End, Prearranged, Abort, Unidirectional, Timeout, RejectTimeout, NoReaction}

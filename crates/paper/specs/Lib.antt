@@ -1,6 +1,7 @@
 pub mod Sizes
 pub mod Elements
 pub mod Problems
+pub mod Kinds
 pub mod Components
 pub mod Messages
 pub mod Writing

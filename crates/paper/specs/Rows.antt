@@ -9,33 +9,8 @@ use Rattle.paper.specs.declared.Control.{Control}
 use Rattle.paper.specs.declared.Row.{Row}
 use Rattle.paper.specs.Problems.{noProblem}
 use Rattle.paper.specs.Components.{Item, noID}
+use Rattle.paper.specs.Kinds.{rowCancel}
 use Rattle.paper.specs.Invocations.{act}
-
--- "Kinds 1 UNI, 2 BEGIN, 3 CONTINUE, 4 END, 5 U-ABORT, 6 P-ABORT, 7 INVOKE, 8 RESULT-L, 9 RESULT-NL, 10 U-ERROR, 11 U-REJECT,
--- 12 R-REJECT, 13 L-REJECT stored, 14 L-REJECT not stored, 15 L-CANCEL": 7 to 14 are given by `act`
-abbrev pub rowUni : ℕ
-rowUni = 1
-
-abbrev pub rowBegin : ℕ
-rowBegin = 2
-
-abbrev pub rowContinue : ℕ
-rowContinue = 3
-
-abbrev pub rowEnd : ℕ
-rowEnd = 4
-
-abbrev pub rowUserAbort : ℕ
-rowUserAbort = 5
-
-abbrev pub rowAbort : ℕ
-rowAbort = 6
-
-abbrev pub rowRejected : ℕ
-rowRejected = 13
-
-abbrev pub rowCancel : ℕ
-rowCancel = 15
 
 -- "invoke ID plus 128 (256 none)": the octet is the ID modulo 256
 unfoldable pub signed : ℕ → ℕ

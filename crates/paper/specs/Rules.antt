@@ -11,16 +11,16 @@ use Rattle.paper.specs.declared.Reject.{Reject}
 use Rattle.paper.specs.declared.Control.{Control}
 use Rattle.paper.specs.Sizes.{placesInAll, services, mostRejects, mostWaiting}
 use Rattle.paper.specs.Problems.{senderOfProblem, byLayer, kindOf}
-use Rattle.paper.specs.Components.{Item, noID, components}
+use Rattle.paper.specs.Components.{Item, noID, noFault, components}
 use Rattle.paper.specs.Invocations.{idle, slotOf}
 use Rattle.paper.specs.Dialogues.{dialogueFree, dialogueReceived, dialogueActive}
 use Rattle.paper.specs.Shares.{sharesFit, sharesKept}
 use Rattle.paper.specs.Calls.{Table, guaranteeOf, limitOf, held}
-use Rattle.paper.specs.Layout.{waitingStart, placeBy, slot, mapBit, view}
+use Rattle.paper.specs.Layout.{stateAt, waitingLengthAt, waitingStart, placeBy, slot, mapBit, view}
 
 -- "a free place is all zero but its turn"; its bit of the map is set
 unfoldable pub freeKept : List ℕ → ℕ → Bool
-freeKept s bit = ifEq bit 1 (zeros (drop 3 s)) false
+freeKept s bit = ifEq bit 1 (zeros (drop stateAt s)) false
 
 -- "octets and invocations not in use are zero; states .. classes .. are in range"
 unfoldable pub invocationKept : Invocation → Bool
@@ -72,7 +72,7 @@ controlKept c =
 
 -- "waiting octets are whole components, well formed and with the pieces that Coding gives"
 unfoldable pub isSoundItem : Item → Bool
-isSoundItem i = eqb (i .part .fault) 3
+isSoundItem i = eqb (i .part .fault) noFault
 
 unfoldable pub waitingKept : List ℕ → Bool
 waitingKept w = ifEq (length w) 0 true (every isSoundItem (components w (length w) 0))
@@ -82,15 +82,15 @@ unfoldable pub usedKept : List ℕ → ℕ → Bool
 usedKept s bit =
     ifEq bit 0
     (ifB (controlKept (placeBy s .control))
-    (ifLt mostWaiting (getD s 10 0) false
-    (ifB (zeros (drop (waitingStart + getD s 10 0) s)) (waitingKept (placeBy s .waiting)) false))
+    (ifLt mostWaiting (getD s waitingLengthAt 0) false
+    (ifB (zeros (drop (waitingStart + getD s waitingLengthAt 0) s)) (waitingKept (placeBy s .waiting)) false))
     false)
     false
 
 -- "the map agrees with the places"
 unfoldable pub placeKept : List ℕ → ℕ → Bool
 placeKept t p =
-    ifEq (getD (slot t p) 3 0) dialogueFree (freeKept (slot t p) (mapBit t p)) (usedKept (slot t p) (mapBit t p))
+    ifEq (getD (slot t p) stateAt 0) dialogueFree (freeKept (slot t p) (mapBit t p)) (usedKept (slot t p) (mapBit t p))
 
 -- "shares as for 13; nobody above the limit; free places at least the sum of unused guarantees"
 unfoldable pub tableShares : Table → Bool

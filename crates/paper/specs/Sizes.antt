@@ -38,6 +38,10 @@ leastRows = 4096
 abbrev pub depths : ℕ
 depths = 16
 
+-- those from depth k on: a parameter is at depth 2, at 3 in a result's 30, user information at 5 in its portion
+abbrev pub depthsFrom : ℕ → ℕ
+depthsFrom k = 17 - k
+
 -- "The local ID is four octets: the place (0 to 127), then its turn in three, high first."
 -- As a number it is place times 2^24 plus turn.
 abbrev pub turns : ℕ

@@ -127,29 +127,128 @@ pub struct Acted {
     pub problem: u32,
 }
 
-// ---- THE TABLE'S OCTETS (docs/TABLE.md; specs/Layout has the same numbers): its size, where its parts begin, and within a place.
-pub const TABLE_OCTETS: usize = 36400;
+// ---- THE NUMBERS, named as in specs/.
+// specs/Sizes
+pub const PLACES_IN_ALL: usize = 128;
 
-pub const GUARANTEES: usize = 16;
+pub const SERVICES: usize = 16;
 
-pub const LIMITS: usize = 32;
+pub const MOST_INVOCATIONS: usize = 8;
 
-pub const PLACES: usize = 48;
+pub const MOST_REJECTS: usize = 8;
 
-pub const PLACE_OCTETS: usize = 284;
+pub const MOST_WAITING: usize = 240;
 
-pub const INVOCATIONS: usize = 12;
-
-pub const REJECTS: usize = 28;
-
-pub const WAITING: usize = 44;
-
-pub const FIRST_WAITING: usize = PLACES + WAITING;
-
-// "space for a message at least 272 octets; space for at least 128 rows of 8 32-bit numbers"
-pub const LEAST_ROWS: usize = 4096;
+pub const LONGEST_MESSAGE: usize = 512;
 
 pub const LEAST_SPACE: usize = 272;
+
+pub const LEAST_ROWS: usize = 4096;
+
+pub const DEPTHS: u8 = 16;
+
+pub const TURNS: u32 = 16777216;
+
+// specs/Problems, specs/Components: none, of a problem and of an ID; no fault
+pub const NO_PROBLEM: u32 = 65535;
+
+pub const NO_ID: u32 = 256;
+
+pub const NO_FAULT: u8 = 3;
+
+// specs/Dialogues: a dialogue's states
+pub const DIALOGUE_FREE: u8 = 0;
+
+pub const DIALOGUE_OPEN: u8 = 1;
+
+pub const DIALOGUE_SENT: u8 = 2;
+
+pub const DIALOGUE_RECEIVED: u8 = 3;
+
+pub const DIALOGUE_ACTIVE: u8 = 4;
+
+// specs/Invocations: an invocation's states
+pub const IDLE: u8 = 0;
+
+pub const PENDING: u8 = 1;
+
+pub const SENT: u8 = 2;
+
+pub const WAIT: u8 = 3;
+
+pub const REJECTING: u8 = 4;
+
+// specs/Messages: what a message is, beside the P-Abort causes of one at fault
+pub const IS_SOUND: u8 = 255;
+
+pub const IS_DROPPED: u8 = 254;
+
+// specs/Kinds: the kinds of rows
+pub const ROW_UNI: u32 = 1;
+
+pub const ROW_BEGIN: u32 = 2;
+
+pub const ROW_CONTINUE: u32 = 3;
+
+pub const ROW_END: u32 = 4;
+
+pub const ROW_USER_ABORT: u32 = 5;
+
+pub const ROW_ABORT: u32 = 6;
+
+pub const ROW_INVOKE: u32 = 7;
+
+pub const ROW_LAST: u32 = 8;
+
+pub const ROW_NOT_LAST: u32 = 9;
+
+pub const ROW_ERROR: u32 = 10;
+
+pub const ROW_USER_REJECT: u32 = 11;
+
+pub const ROW_REMOTE_REJECT: u32 = 12;
+
+pub const ROW_REJECTED: u32 = 13;
+
+pub const ROW_NOT_STORED: u32 = 14;
+
+pub const ROW_CANCEL: u32 = 15;
+
+// ---- THE TABLE'S OCTETS (docs/TABLE.md), each where the one before it ends: specs/Layout has the widths.
+pub const MAP: usize = 0;
+
+pub const GUARANTEES: usize = MAP + 16;
+
+pub const LIMITS: usize = GUARANTEES + SERVICES;
+
+pub const PLACES: usize = LIMITS + SERVICES;
+
+pub const TABLE_OCTETS: usize = PLACES + PLACES_IN_ALL * PLACE_OCTETS;
+
+// within a place
+pub const TURN: usize = 0;
+
+pub const STATE: usize = TURN + 3;
+
+pub const SERVICE: usize = STATE + 1;
+
+pub const PEER_LENGTH: usize = SERVICE + 1;
+
+pub const PEER: usize = PEER_LENGTH + 1;
+
+pub const WAITING_LENGTH: usize = PEER + 4;
+
+pub const REJECTS_WAITING: usize = WAITING_LENGTH + 1;
+
+pub const INVOCATIONS: usize = REJECTS_WAITING + 1;
+
+pub const REJECTS: usize = INVOCATIONS + 2 * MOST_INVOCATIONS;
+
+pub const WAITING: usize = REJECTS + 2 * MOST_REJECTS;
+
+pub const PLACE_OCTETS: usize = WAITING + MOST_WAITING;
+
+pub const FIRST_WAITING: usize = PLACES + WAITING;
 
 // ---- THE DIALOGUE PDUS by their kind (02 a; specs/Portions has the same numbers), as in a row.
 pub const AARQ: u8 = 2;

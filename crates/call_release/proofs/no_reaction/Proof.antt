@@ -4,7 +4,8 @@ use Rattle.paper.specs.Calls.Call.{OnDialogue}
 use Rattle.paper.specs.Calls.{placeAt}
 use Rattle.paper.specs.Dialogues.Request.{NoReaction}
 use Rattle.paper.specs.Dialogues.{freed, refusal, does, needsSent}
-use Rattle.paper.specs.Rows.{dialogueRow, rowAbort, rowOctets}
+use Rattle.paper.specs.Kinds.{rowAbort}
+use Rattle.paper.specs.Rows.{dialogueRow, rowOctets}
 use Rattle.paper.specs.Messages.{noRun}
 use Rattle.paper.specs.Problems.{noProblem}
 use Rattle.paper.specs.declared.Row.{Row}
