@@ -18,35 +18,22 @@ use Rattle.paper.specs.Problems.{kindOf, codeOf}
 use Rattle.paper.specs.Dialogues.{Place, noReject}
 use Rattle.paper.specs.Layout.{invocationOctets, waitingRejectOctets, placeOctets, invocationBy, invocationsAt, rejectBy, rejectsAt, placeBy}
 use Rattle.table_laws.specs.Zeros.{pad-length, pad-of, pad-rest}
-use Rattle.table_laws.specs.Fine.{Octets, FineInvocation, FineInvocations, FineRejects, FineControl, Storable}
+use Rattle.table_laws.specs.Fine.{Octets, FineInvocation, FineInvocations, FineRejects, FineControl}
 use Rattle.table_laws.specs.Kept.{same-invocation, same-reject, layer-small}
 
--- ---- what a store asks
--- a reject's problem goes into seven bits
+-- ---- a reject's ID goes into nine bits, its problem into seven
 abbrev pub SmallReject : Reject → Type 0
-SmallReject r = (kindOf (r .problem) < 16) × (codeOf (r .problem) < 8)
+SmallReject r = (r .id < 512) × (kindOf (r .problem) < 16) × (codeOf (r .problem) < 8)
 
 pub rejects-small : (n : ℕ) (l : List Reject) → FineRejects n l → (i : ℕ) → i < length l → SmallReject (getD l i noReject)
 rejects-small n l f i h = go (ltb i n) refl
   where
     go : (b : Bool) → ltb i n ≡ b → SmallReject (getD l i noReject)
     go true q =
-        let w = layer-small (kindOf (getD l i noReject .problem)) (codeOf (getD l i noReject .problem)) (f .each i (ltb-true i n q) h .sender) in
-        (omega (arith, w .0), omega (arith, w .1))
-    go false q = subst SmallReject (sym (f .rest i (ltb-false i n q) h)) (omega arith, omega arith)
-
-pub fine-storable : (c : Control) → FineControl c → Storable c
-fine-storable c f = record {
-  four = f .four;
-  eight = f .eight;
-  invocations = λ i h. let v = f .invocations .each i (omega (arith, f .eight)) in (omega (arith, v .state), omega (arith, v .class), omega (arith, v .shown));
-  eights = f .eights;
-  rejects = λ i h. let w = rejects-small (c .count) (c .rejects) (f .rejects) i (omega (arith, f .eights)) in (known i (omega (arith, f .eights)) (ltb i (c .count)) refl, w .0, w .1);
-}
-  where
-    known : (i : ℕ) → i < length (c .rejects) → (b : Bool) → ltb i (c .count) ≡ b → getD (c .rejects) i noReject .id < 512
-    known i h true q = omega (arith, f .rejects .each i (ltb-true i (c .count) q) h .id)
-    known i h false q = omega (arith, ap (λ (r : Reject). r .id) (f .rejects .rest i (ltb-false i (c .count) q) h))
+        let r = f .each i (ltb-true i n q) h in
+        let w = layer-small (kindOf (getD l i noReject .problem)) (codeOf (getD l i noReject .problem)) (r .sender) in
+        (omega (arith, r .id), omega (arith, w .0), omega (arith, w .1))
+    go false q = subst SmallReject (sym (f .rest i (ltb-false i n q) h)) (omega arith, omega arith, omega arith)
 
 -- ---- the octets of a control record, with the length of the waiting octets among them: the first 44 of its place
 abbrev pub controlOctets : Control → ℕ → List ℕ
@@ -63,14 +50,14 @@ rejectOctets-length : (l : List Reject) → length (waitingRejectOctets l) ≡ 2
 rejectOctets-length [] = refl
 rejectOctets-length (r ∷ l) = omega (arith, rejectOctets-length l)
 
-pub controlOctets-length : (c : Control) (n : ℕ) → Storable c → length (controlOctets c n) ≡ 44
+pub controlOctets-length : (c : Control) (n : ℕ) → FineControl c → length (controlOctets c n) ≡ 44
 controlOctets-length c n f =
     simp length-append (omega (arith, invocationOctets-length (c .invocations), rejectOctets-length (c .rejects), f .four, f .eight, f .eights))
 
 pub place-split : (x : Place) → placeOctets x ≡ controlOctets (x .control) (length (x .waiting)) ++ pad 240 (x .waiting)
 place-split x = simp append-assoc
 
-pub placeOctets-length : (x : Place) → Storable (x .control) → length (placeOctets x) ≡ 284
+pub placeOctets-length : (x : Place) → FineControl (x .control) → length (placeOctets x) ≡ 284
 placeOctets-length x f =
     ap length (place-split x)
     ∙ length-append (controlOctets (x .control) (length (x .waiting))) (pad 240 (x .waiting))
@@ -166,7 +153,7 @@ invocations-back (v ∷ l) r f =
 
 reject-back : (r : Reject) → SmallReject r → rejectBy (r .id % 256) (codeOf (r .problem) + kindOf (r .problem) * 8 + r .id / 256 * 128) ≡ r
 reject-back r f =
-    same-reject (rejectBy (r .id % 256) (codeOf (r .problem) + kindOf (r .problem) * 8 + r .id / 256 * 128)) r (omega (arith, f .0, f .1)) (omega (arith, f .0, f .1))
+    same-reject (rejectBy (r .id % 256) (codeOf (r .problem) + kindOf (r .problem) * 8 + r .id / 256 * 128)) r (omega (arith, f .1, f .2)) (omega (arith, f .1, f .2))
 
 rejects-past : (n a x : ℕ) (s : List ℕ) → rejectsAt n (suc a) (x ∷ s) ≡ rejectsAt n a s
 rejects-past zero a x s = refl
@@ -247,4 +234,4 @@ module _ (x : Place) (f : FineControl (x .control)) where
   pub waiting-at : drop 44 (placeOctets x) ≡ pad 240 (x .waiting)
   waiting-at =
       ap (drop 44) (place-split x)
-      ∙ drop-at (controlOctets (x .control) (length (x .waiting))) (pad 240 (x .waiting)) 44 (controlOctets-length (x .control) (length (x .waiting)) (fine-storable (x .control) f))
+      ∙ drop-at (controlOctets (x .control) (length (x .waiting))) (pad 240 (x .waiting)) 44 (controlOctets-length (x .control) (length (x .waiting)) f)

@@ -16,9 +16,9 @@ use Rattle.paper.specs.Calls.{Table, placeAt, withPlace}
 use Rattle.paper.specs.Layout.{placeStart, placeOctets, flag, mapOctets, encode, slot, mapBit}
 use Rattle.table_map.specs.Map.{withBit, withoutBit}
 use Rattle.table_laws.specs.Zeros.{pad-length, pad-none, pad-more}
-use Rattle.table_laws.specs.Fine.{Storable, Fine}
-use Rattle.table_laws.specs.Octets.{fine-storable, controlOctets, controlOctets-length, place-split, placeOctets-length}
-use Rattle.table_laws.specs.Slots.{flag-free, flag-used, free-is, empty-storable}
+use Rattle.table_laws.specs.Fine.{FineControl, Fine}
+use Rattle.table_laws.specs.Octets.{controlOctets, controlOctets-length, place-split, placeOctets-length}
+use Rattle.table_laws.specs.Slots.{flag-free, flag-used, free-is, empty-fine}
 use Rattle.table_laws.specs.Whole.{laid, laid-set, laid-at, laid-over, fine-fit, flags-two, flag-at, map-digits, map-length, map-store, encode-slot, encode-length, encode-bit}
 
 -- ---- one part replaced, twice
@@ -116,9 +116,9 @@ module _ (T : Table) (f : Fine T) (p : ℕ) (h : p < 128) where
   unfolding part slot
   slot-part = encode-slot T f p h
 
-  module _ (c : Control) (g : Storable c) (n k : ℕ) (l : List ℕ) (r : k + length l ≤ 240) where
-    was : Storable (placeAt T p .control)
-    was = fine-storable (placeAt T p .control) (f .each p h .control)
+  module _ (c : Control) (g : FineControl c) (n k : ℕ) (l : List ℕ) (r : k + length l ≤ 240) where
+    was : FineControl (placeAt T p .control)
+    was = f .each p h .control
 
     -- the run in the place
     run-octets : over (placeOctets (placeAt T p)) (44 + k) l ≡ controlOctets (placeAt T p .control) (length (placeAt T p .waiting)) ++ over (pad 240 (placeAt T p .waiting)) k l
@@ -167,9 +167,9 @@ module _ (T : Table) (f : Fine T) (p : ℕ) (h : p < 128) where
   -- ---- WHAT EACH CHANGE OF A PLACE LEAVES: the octets that the code writes, and the table that they are
   pub freed-octets : flag (placeAt T p) ≡ 0 → withBit (over (encode T) (placeStart p) (placeOctets (freed (placeAt T p)))) p ≡ encode (withPlace T p (freed (placeAt T p)))
   freed-octets u =
-      store-up (freed (placeAt T p)) (placeOctets-length (freed (placeAt T p)) (empty-storable (nextTurn (placeAt T p .control .turn)))) u (flag-free (freed (placeAt T p)) refl)
+      store-up (freed (placeAt T p)) (placeOctets-length (freed (placeAt T p)) (empty-fine (nextTurn (placeAt T p .control .turn)) (omega arith) .control)) u (flag-free (freed (placeAt T p)) refl)
 
-  module _ (c : Control) (g : Storable c) (s : c .state ≡ 0 → ⊥) where
+  module _ (c : Control) (g : FineControl c) (s : c .state ≡ 0 → ⊥) where
     abbrev with-waiting : List ℕ → Place
     with-waiting w = record { control = c; waiting = w }
 

@@ -15,7 +15,7 @@ use Rattle.paper.specs.Calls.{Table, isFree, placeAt}
 use Rattle.paper.specs.Layout.{placeStart, placeOctets, allPlaces, flag, mapOctets, encode, placeBy, slot, view, mapBit}
 use Rattle.paper.specs.Rules.{placeKept}
 use Rattle.table_laws.specs.Fine.{Octets, FinePlace, Fine}
-use Rattle.table_laws.specs.Octets.{fine-storable, placeOctets-length, place-back}
+use Rattle.table_laws.specs.Octets.{placeOctets-length, place-back}
 use Rattle.table_laws.specs.Slots.{KeptSlot, slotKept, slot-is, fine-kept}
 
 -- each place has the size of one
@@ -151,7 +151,7 @@ map-store ps p b x e h o q =
 
 -- ---- FROM RECORDS
 pub fine-fit : (T : Table) → Fine T → Fit (T .places)
-fine-fit T f p h = placeOctets-length (placeAt T p) (fine-storable (placeAt T p .control) (f .each p (omega (arith, f .places)) .control))
+fine-fit T f p h = placeOctets-length (placeAt T p) (f .each p (omega (arith, f .places)) .control)
 
 module _ (T : Table) (f : Fine T) where
   pub encode-length : length (encode T) ≡ 36400

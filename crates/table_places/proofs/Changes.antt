@@ -15,7 +15,7 @@ use Rattle.paper.specs.Layout.{placeStart, placeOctets, placeBy, flag, encode, 
 use Rattle.table_map.specs.Map.{withBit, withoutBit}
 use Rattle.table_laws.specs.Zeros.{pad-none}
 use Rattle.table_laws.specs.Octets.{controlOctets, placeOctets-length}
-use Rattle.table_laws.specs.Slots.{empty-storable}
+use Rattle.table_laws.specs.Slots.{empty-fine}
 use Rattle.table_laws.specs.Ready.{Ready}
 use Rattle.table_laws.specs.Stores.{stored-octets, begun-octets, passed-octets, sent-octets, freed-octets, bit-stays}
 use Rattle.table_places.specs.Storing.{Storing, withWaiting}
@@ -74,7 +74,7 @@ module _ (t last : List ℕ) (p : ℕ) (r : Ready t) (h : p < 128) (e : last ≡
       let x : Place = freed (placeAt (view t) p) in
       let n : 48 + p * 284 + 284 - (48 + p * 284) ≡ 284 = omega arith in
       let q : last ≡ placeOctets x = e ∙ ap (λ (y : Place). placeOctets (freed y)) (lent-place t p h) in
-      let l : length (placeOctets x) ≡ 284 = placeOctets-length x (empty-storable (nextTurn (placeAt (view t) p .control .turn))) in
+      let l : length (placeOctets x) ≡ 284 = placeOctets-length x (empty-fine (nextTurn (placeAt (view t) p .control .turn)) (omega arith) .control) in
       ap (putMid (48 + p * 284) (48 + p * 284 + 284 - (48 + p * 284)) t) q
       ∙ put-over (48 + p * 284) (48 + p * 284 + 284 - (48 + p * 284)) t (placeOctets x) (l ∙ sym n)
       ∙ ap (λ (u : List ℕ). over u (placeStart p) (placeOctets x)) (sym (r .same))

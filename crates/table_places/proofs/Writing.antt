@@ -16,8 +16,8 @@ use Rattle.paper.specs.Problems.{kindOf, codeOf}
 use Rattle.paper.specs.Invocations.{noInvocation}
 use Rattle.paper.specs.Dialogues.{noReject}
 use Rattle.paper.specs.Layout.{placeStart, invocationOctets, waitingRejectOctets}
-use Rattle.table_laws.specs.Fine.{Storable}
-use Rattle.table_laws.specs.Octets.{controlOctets, controlOctets-length, four-octets}
+use Rattle.table_laws.specs.Fine.{FineInvocation, FineControl}
+use Rattle.table_laws.specs.Octets.{SmallReject, rejects-small, controlOctets, controlOctets-length, four-octets}
 use Rattle.table_laws.specs.Stores.{sets-over}
 use Rattle.table_places.specs.Made.{headOctets, pairs, invocationID, invocationMark, rejectID, rejectMark}
 
@@ -49,17 +49,17 @@ module _ {A : Type 0} (f g : A → ℕ) where
 
 -- ---- what goes into its bits is not changed by the remainder
 invocations-are : (l : List Invocation)
-    → ((j : ℕ) → j < length l → (getD l j noInvocation .state < 8) × (getD l j noInvocation .class < 8) × (getD l j noInvocation .shown < 4))
+    → ((j : ℕ) → j < length l → FineInvocation (getD l j noInvocation))
     → pairs invocationID invocationMark l ≡ invocationOctets l
 invocations-are [] f = refl
 invocations-are (v ∷ l) f =
     let b = f 0 (omega arith) in
-    let m : invocationMark v ≡ v .state + v .class * 8 + v .shown * 64 = omega (arith, b .0, b .1, b .2) in
+    let m : invocationMark v ≡ v .state + v .class * 8 + v .shown * 64 = omega (arith, b .state, b .class, b .shown) in
     ap (λ (k : ℕ). v .id ∷ k ∷ pairs invocationID invocationMark l) m
     ∙ ap (λ (r : List ℕ). v .id ∷ (v .state + v .class * 8 + v .shown * 64) ∷ r) (invocations-are l (λ j h. f (suc j) (omega arith)))
 
 rejects-are : (l : List Reject)
-    → ((j : ℕ) → j < length l → (getD l j noReject .id < 512) × (kindOf (getD l j noReject .problem) < 16) × (codeOf (getD l j noReject .problem) < 8))
+    → ((j : ℕ) → j < length l → SmallReject (getD l j noReject))
     → pairs rejectID rejectMark l ≡ waitingRejectOctets l
 rejects-are [] f = refl
 rejects-are (r ∷ l) f =
@@ -71,13 +71,13 @@ rejects-are (r ∷ l) f =
     ap (λ (k : ℕ). r .id % 256 ∷ k ∷ pairs rejectID rejectMark l) m
     ∙ ap (λ (s : List ℕ). r .id % 256 ∷ (codeOf (r .problem) + kindOf (r .problem) * 8 + r .id / 256 * 128) ∷ s) (rejects-are l (λ j h. f (suc j) (omega arith)))
 
-module _ (c : Control) (n : ℕ) (g : Storable c) where
+module _ (c : Control) (n : ℕ) (g : FineControl c) where
   made-octets : headOctets c n ++ (pairs invocationID invocationMark (c .invocations) ++ pairs rejectID rejectMark (c .rejects)) ≡ controlOctets c n
   made-octets =
       ap (λ (l : List ℕ). headOctets c n ++ (l ++ pairs rejectID rejectMark (c .rejects)))
-      (invocations-are (c .invocations) (λ j h. g .invocations j (omega (arith, g .eight))))
+      (invocations-are (c .invocations) (g .invocations .each))
       ∙ ap (λ (l : List ℕ). headOctets c n ++ (invocationOctets (c .invocations) ++ l))
-      (rejects-are (c .rejects) (λ j h. g .rejects j (omega (arith, g .eights))))
+      (rejects-are (c .rejects) (rejects-small (c .count) (c .rejects) (g .rejects)))
       ∙ ap (λ (l : List ℕ). three (c .turn) (c .state ∷ c .service ∷ c .peerlen ∷ (l ++ (n ∷ c .count ∷ (invocationOctets (c .invocations) ++ waitingRejectOctets (c .rejects))))))
       (four-octets (c .peer) (g .four))
 

@@ -19,7 +19,7 @@ ghost use Rattle.paper.specs.Dialogues.{withControl, freed, begun};
 ghost use Rattle.paper.specs.Shares.{free};
 ghost use Rattle.paper.specs.Calls.{placeAt, withPlace, isDialogue, owns, lowestFree};
 ghost use Rattle.paper.specs.Layout.{placeStart, placeOctets, invocationBy, invocationsAt, rejectBy, rejectsAt, controlBy, placeBy, flag, encode, view};
-ghost use Rattle.table_laws.specs.Fine.{Storable};
+ghost use Rattle.table_laws.specs.Fine.{FineControl};
 ghost use Rattle.table_laws.specs.Octets.{controlOctets};
 ghost use Rattle.table_laws.specs.Ready.{Ready};
 ghost use Rattle.table_places.specs.Storing.{Storing, withWaiting};
@@ -355,7 +355,7 @@ fn put_rejects(t: &mut [u8], at: usize, l: [Reject; 8])
 
 // The control record and the length of the waiting octets of place p. What that makes of the table is in facts, Stores.
 pub fn put_control(t: &mut [u8], p: usize, c: Control, n: u8)
-    requires { ⌜ (p < 128) × (length (now t) ≡ 36400) × Storable c ⌝ }
+    requires { ⌜ (p < 128) × (length (now t) ≡ 36400) × FineControl c ⌝ }
     ensures { λ r. ⌜ now (t .exit) ≡ over (now (t .entry)) (placeStart p) (controlOctets c n) ⌝ }
 {
     let a = PLACES + p * PLACE_OCTETS;
