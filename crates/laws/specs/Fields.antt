@@ -4,13 +4,14 @@
 --     field-over                a part of field i replaced
 --     laid-from                 octets whose parts are a record's fields are its layout
 --     record-at, record-over    one of an array of records read, and replaced
+--     pairs-at, pairs-from      two octets for each of a list
 use mathlib.Core.Path.{_≡_, refl, sym, ap, _∙_}
 use mathlib.Core.List.{List, [], _∷_, _++_, map, append-nil, append-assoc}
 use Prim.Native.Nat.{ℕ, zero, suc, _+_, _*_, _<_, _≤_}
 use native.Mathlib.Nat.{add-zero, suc-mul}
 use native.Mathlib.Omega.{arith}
 use lib.ListN.{length, getD, set, take, drop, length-append, take-append-drop, drop-of-length-le}
-use lib.Seq.{take-at, drop-at, drop-drop, drop-append-add}
+use lib.Seq.{take-at, drop-at, drop-cons, drop-drop, drop-append-add}
 use Rattle.laws.specs.Lists.{tab}
 use Rattle.laws.specs.Parts.{over, shift, stay}
 
@@ -46,6 +47,12 @@ module _ {A : Type 0} where
   abbrev pub Sized : List (Field A) → A → Type 0
   Sized [] x = Unit {0}
   Sized (f ∷ fs) x = (length (f .octets x) ≡ f .width) × Sized fs x
+
+  pub sized-take : (fs : List (Field A)) (x : A) → Sized fs x → (i : ℕ) → Sized (take i fs) x
+  sized-take [] x s zero = s
+  sized-take [] x s (suc i) = s
+  sized-take (f ∷ fs) x s zero = tt
+  sized-take (f ∷ fs) x s (suc i) = (s .0, sized-take fs x (s .1) i)
 
   laid-cons : (f : Field A) (fs : List (Field A)) (x : A) → laidOut (f ∷ fs) x ≡ f .octets x ++ laidOut fs x
   laid-cons f [] x = sym (append-nil (f .octets x))
@@ -188,3 +195,53 @@ module _ {A : Type 0} (f : A → List ℕ) (n : ℕ) (d : A) where
       (records-from t g a m (suc i) (omega (arith, ap (λ (k : ℕ). a + k * n) y)) (λ j l. e j (omega arith))
       ∙ ap (λ (k : ℕ). drop k t) (sym z) ∙ sym (drop-drop n (a + i * n) t))
       ∙ take-append-drop n (drop (a + i * n) t)
+
+-- ---- TWO OCTETS FOR EACH OF A LIST, and n of them read back from a on
+abbrev pub pairs : {A : Type 0} → (A → ℕ) → (A → ℕ) → List A → List ℕ
+pairs f g [] = []
+pairs f g (x ∷ l) = f x ∷ g x ∷ pairs f g l
+
+abbrev pub pairsAt : {A : Type 0} → (ℕ → ℕ → A) → ℕ → ℕ → List ℕ → List A
+pairsAt by zero a s = []
+pairsAt by (suc n) a s = by (getD s a 0) (getD s (suc a) 0) ∷ pairsAt by n (suc (suc a)) s
+
+module _ {A : Type 0} (f g : A → ℕ) (by : ℕ → ℕ → A) where
+  pub pairs-length : (l : List A) → length (pairs f g l) ≡ 2 * length l
+  pairs-length [] = refl
+  pairs-length (x ∷ l) = omega (arith, pairs-length l)
+
+  pairs-past : (n a x : ℕ) (s : List ℕ) → pairsAt by n (suc a) (x ∷ s) ≡ pairsAt by n a s
+  pairs-past zero a x s = refl
+  pairs-past (suc n) a x s = ap (λ (l : List A). by (getD s a 0) (getD s (suc a) 0) ∷ l) (pairs-past n (suc (suc a)) x s)
+
+  pairs-back : (l : List A) (d : A) (r : List ℕ) → ((i : ℕ) → i < length l → by (f (getD l i d)) (g (getD l i d)) ≡ getD l i d) → pairsAt by (length l) 0 (pairs f g l ++ r) ≡ l
+  pairs-back [] d r e = refl
+  pairs-back (x ∷ l) d r e =
+      let s : List ℕ = pairs f g l ++ r in
+      ap (λ (y : A). y ∷ pairsAt by (length l) 2 (f x ∷ g x ∷ s)) (e 0 (omega arith))
+      ∙ ap (λ (m : List A). x ∷ m) (pairs-past (length l) 1 (f x) (g x ∷ s) ∙ pairs-past (length l) 0 (g x) s ∙ pairs-back l d r (λ i h. e (suc i) (omega arith)))
+
+  drop-pairs : (n a : ℕ) (s : List ℕ) → a ≤ length s → pairsAt by n a s ≡ pairsAt by n 0 (drop a s)
+  drop-pairs n zero s h = refl
+  drop-pairs n (suc a) [] h = absurd (omega arith)
+  drop-pairs n (suc a) (x ∷ s) h = pairs-past n a x s ∙ drop-pairs n a s (omega arith)
+
+  -- a list is had back from where its pairs stand
+  pub pairs-at : (l : List A) (d : A) (n a : ℕ) (s r : List ℕ) → ((i : ℕ) → i < length l → by (f (getD l i d)) (g (getD l i d)) ≡ getD l i d)
+      → length l ≡ n → a ≤ length s → drop a s ≡ pairs f g l ++ r → pairsAt by n a s ≡ l
+  pairs-at l d n a s r e m h q =
+      drop-pairs n a s h ∙ ap (pairsAt by n 0) q ∙ ap (λ (k : ℕ). pairsAt by k 0 (pairs f g l ++ r)) (sym m) ∙ pairs-back l d r e
+
+  -- and the pairs from what they are read as
+  pub pairs-from : (n a : ℕ) (s : List ℕ) → ((i : ℕ) → (f (by (getD s i 0) (getD s (suc i) 0)) ≡ getD s i 0) × (g (by (getD s i 0) (getD s (suc i) 0)) ≡ getD s (suc i) 0))
+      → a + 2 * n ≤ length s → pairs f g (pairsAt by n a s) ≡ take (2 * n) (drop a s)
+  pairs-from zero a s e h = refl
+  pairs-from (suc n) a s e h =
+      let x : ℕ = getD s a 0 in
+      let y : ℕ = getD s (suc a) 0 in
+      let l : List ℕ = pairs f g (pairsAt by n (suc (suc a)) s) in
+      let z : 2 * suc n ≡ suc (suc (2 * n)) = omega arith in
+      ap (λ (k : ℕ). k ∷ g (by x y) ∷ l) (e a .0)
+      ∙ ap (λ (k : ℕ). x ∷ k ∷ l) (e a .1)
+      ∙ ap (λ (r : List ℕ). x ∷ y ∷ r) (pairs-from n (suc (suc a)) s e (omega arith))
+      ∙ sym (ap (λ (k : ℕ). take k (drop a s)) z ∙ ap (take (suc (suc (2 * n)))) (drop-cons s a 0 (omega arith) ∙ ap (λ (r : List ℕ). x ∷ r) (drop-cons s (suc a) 0 (omega arith))))

@@ -3,6 +3,7 @@ use mathlib.Core.Path.{_≡_}
 use mathlib.Core.List.{List}
 use Prim.Native.Nat.{ℕ, _<_}
 use Rattle.paper.specs.declared.Control.{Control}
+use Rattle.paper.specs.Sizes.{placesInAll}
 use Rattle.paper.specs.Dialogues.{Place}
 use Rattle.paper.specs.Calls.{placeAt}
 use Rattle.paper.specs.Layout.{flag, view}
@@ -12,7 +13,7 @@ use Rattle.table_laws.specs.Ready.{Ready}
 -- the table keeps the rules, place p is used (bit 0) or free (1), and c is a dialogue's
 pub record Storing (bit : ℕ) (t : List ℕ) (p : ℕ) (c : Control) : Type 0 where
   pub ready : Ready t
-  pub small : p < 128
+  pub small : p < placesInAll
   pub told : flag (placeAt (view t) p) ≡ bit
   pub control : FineControl c
   pub state : c .state ≡ 0 → ⊥
