@@ -11,7 +11,7 @@ use Rattle.paper.specs.Shares.{gives}
 use Rattle.paper.specs.Calls.{placeAt, guaranteeOf, limitOf, held, mayBegin, lowestFree, owns}
 use Rattle.paper.specs.Layout.{flag, view}
 use Rattle.paper.specs.declared.Control.{Control}
-use Rattle.table_laws.specs.Fine.{FinePlace, Storable}
+use Rattle.table_laws.specs.Fine.{FineControl, FinePlace}
 use Rattle.table_places.specs.Storing.{Storing}
 use Rattle.table_laws.specs.Ready.{Ready}
 use Rattle.table_laws.specs.Owners.{owned-is}
@@ -128,5 +128,5 @@ module _ (t : List ℕ) (s d : ℕ) where
         }
 
 -- a control record that can be stored at a dialogue's place
-pub used-storing : {t : List ℕ} {p : ℕ} → Used t p → {c : Control} → Storable c → (c .state ≡ 0 → ⊥) → Storing 0 t p c
+pub used-storing : {t : List ℕ} {p : ℕ} → Used t p → {c : Control} → FineControl c → (c .state ≡ 0 → ⊥) → Storing 0 t p c
 used-storing u f n = record { ready = u .ready; small = u .small; told = u .told; control = f; state = n }

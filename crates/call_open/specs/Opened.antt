@@ -5,14 +5,15 @@ use mathlib.Core.List.{List, []}
 use Prim.Native.Nat.{ℕ, _<_}
 use native.Mathlib.Omega.{arith}
 use lib.ListN.{replicate}
-use Rattle.laws.specs.If.{yes, no}
+use Rattle.laws.specs.If.{yes, no, true-false}
 use Rattle.paper.specs.Sizes.{localID}
 use Rattle.paper.specs.Dialogues.{begun, dialogueOpen}
 use Rattle.paper.specs.Calls.{Out, placeAt, withPlace, mayBegin, lowestFree, openedAt, opened}
 use Rattle.paper.specs.Calls.Call.{Open}
 use Rattle.paper.specs.Layout.{flag, encode, view}
 use Rattle.paper.specs.Outcome.{outcome}
-use Rattle.table_laws.specs.Storables.{storable-begun}
+use Rattle.table_laws.specs.Zeros.{zeros-of}
+use Rattle.table_laws.specs.Keeps.{peers, begun-fine}
 use Rattle.table_places.specs.Storing.{Storing, withWaiting}
 use Rattle.call_entry.specs.declared.Reply.{Reply}
 use Rattle.call_entry.specs.Replies.{reply, Told}
@@ -30,12 +31,14 @@ module _ (t : List ℕ) (s : ℕ) (i : InService t s) where
     pub open-there : (p < 128) × (flag (placeAt (view t) p) ≡ 1)
     open-there = (omega (arith, e, i .there m .0), ap (λ (k : ℕ). flag (placeAt (view t) k)) e ∙ i .there m .1)
 
-    pub open-storing : (turn : ℕ) → Storing 1 t p (begun turn dialogueOpen s 0 (replicate 4 0))
-    open-storing turn = record {
+    pub open-storing : (turn : ℕ) → turn < 16777216 → Storing 1 t p (begun turn dialogueOpen s 0 (replicate 4 0))
+    open-storing turn l = record {
       ready = i .ready;
       small = open-there .0;
       told = open-there .1;
-      control = storable-begun turn dialogueOpen s 0 (replicate 4 0) refl;
+      control =
+          begun-fine turn dialogueOpen s 0 (replicate 4 0) l (omega arith) (i .service) refl
+          (record { some = λ z. absurd (true-false (sym z ∙ peers .0)); none = λ z. refl; most = omega arith; rest = zeros-of 4 });
       state = λ z. omega arith;
     }
 

@@ -17,8 +17,7 @@ use Rattle.paper.specs.Calls.{placeAt}
 use Rattle.paper.specs.Layout.{view}
 use Rattle.writing_octets.specs.Lengths.{elementSize, resultSize, plain-size, linked-size, invoke-length, result-length, error-length, reject-length, some-size}
 use Rattle.call_given.specs.Pieces.{piecesRefusal, bothRefusal}
-use Rattle.table_laws.specs.Octets.{fine-storable}
-use Rattle.table_laws.specs.Storables.{storable-passed, storable-to}
+use Rattle.table_laws.specs.Keeps.{passed-fine, to-state-fine}
 use Rattle.table_places.specs.Storing.{Storing}
 use Rattle.call_entry.specs.Prologue.{Used, used-storing}
 
@@ -78,6 +77,7 @@ module _ (x : Place) (n : ℕ) (w : length (x .waiting) ≡ n) where
             ge _ _ _ _ a (ge _ _ _ _ b (eq _ _ _ _ d (ne _ _ _ _ h (e ∙ pieces-as (frontOf linked) op par (invokeOctets id linked op par) (front-size id linked op par)))))
 
     pub invoke-in : 0 ≡ invokeRefusal x id linked class op par → (class ≤ 4) × (idleSlot (x .control .invocations) ≡ 8 → ⊥) × (n + length (invokeOctets id linked op par) ≤ 240)
+        × (1 ≤ class) × (stateOf (x .control) id ≡ 0)
     unfolding invokeRefusal
     invoke-in e =
         let a = was-ge _ _ _ _ e (λ z. omega arith) in
@@ -86,7 +86,7 @@ module _ (x : Place) (n : ℕ) (w : length (x .waiting) ≡ n) where
         by-eq _ _ _ _ (c .1) (λ h z. absurd (omega arith))
         (λ h z. let d = was-yes _ _ _ z (λ y. omega arith) in
         let f = was-yes _ _ _ (d .1) (λ y. omega arith) in
-        (b .0, h, room (invokeOctets id linked op par) (f .1)))
+        (b .0, h, room (invokeOctets id linked op par) (f .1), a .0, c .0))
 
   -- ---- a result, an error: not in Open
   module _ (tag id : ℕ) (op par : List ℕ) where
@@ -187,17 +187,16 @@ module _ {t : List ℕ} {p : ℕ} (u : Used t p) where
   x = placeAt (view t) p
 
   pub plain-storing : Storing 0 t p (x .control)
-  plain-storing = used-storing u (fine-storable (x .control) (u .fine .control)) (u .state)
+  plain-storing = used-storing u (u .fine .control) (u .state)
 
-  pub passed-storing : (id class : ℕ) → class ≤ 4 → Storing 0 t p (passed (x .control) id class)
+  pub passed-storing : (id class : ℕ) → stateOf (x .control) id ≡ 0 → 1 ≤ class → class ≤ 4 → Storing 0 t p (passed (x .control) id class)
   unfolding passed
-  passed-storing id class h = used-storing u (storable-passed (x .control) (fine-storable (x .control) (u .fine .control)) id class (omega arith)) (u .state)
+  passed-storing id class i g h = used-storing u (passed-fine (x .control) (u .fine .control) id class i g h) (u .state)
 
-  pub rejected-storing : (id q : ℕ) → Storing 0 t p (rejectedBy (x .control) id q)
+  pub rejected-storing : (id q : ℕ) → mayReject (kindOf q) (invocationOf (x .control .invocations) id) ≡ true → Storing 0 t p (rejectedBy (x .control) id q)
   unfolding rejectedBy toState
-  rejected-storing id q =
+  rejected-storing id q m =
       by-eq {r = rejectedBy (x .control) id q} (kindOf q) 1 (x .control) (toState (x .control) id rejecting) refl
-      (λ h e. subst (Storing 0 t p) (sym e) plain-storing) (λ h e. subst (Storing 0 t p) (sym e) moved)
-    where
-      moved : Storing 0 t p (toState (x .control) id rejecting)
-      moved = used-storing u (storable-to (x .control) (fine-storable (x .control) (u .fine .control)) id rejecting (omega arith)) (u .state)
+      (λ h e. subst (Storing 0 t p) (sym e) plain-storing)
+      (λ h e. subst (Storing 0 t p) (sym e) (used-storing u
+      (to-state-fine (x .control) (u .fine .control) id rejecting (rejectable (kindOf q) (invocationOf (x .control .invocations) id) m h) (omega arith) (omega arith)) (u .state)))

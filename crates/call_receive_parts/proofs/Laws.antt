@@ -23,15 +23,14 @@ use Rattle.paper.specs.Rows.{dialogueRow, rowOctets, rowsOctets, componentRows,
 use Rattle.paper.specs.Dialogues.{begun, freed, withControl, emptyControl, dialogueReceived}
 use Rattle.paper.specs.Calls.{Table, Out, refuse, shows, placeAt, withPlace, owns, octetsAt, destinationNumber, assigned, faultedAt, faulted, itemsOf, uniReceived, begunControl, beginAt, continuedControl, continueReceived, endReceived, abortReceived, lowestFree, mayBegin}
 use Rattle.paper.specs.Layout.{encode, view}
-use Rattle.table_laws.specs.Fine.{Octets, Storable}
-use Rattle.table_laws.specs.Zeros.{pad-length}
-use Rattle.table_laws.specs.Octets.{fine-storable}
+use Rattle.table_laws.specs.Fine.{FineControl}
 use Rattle.table_laws.specs.Slots.{flag-free}
 use Rattle.table_laws.specs.Ready.{Ready}
 use Rattle.table_laws.specs.Owners.{Owned, owned-is}
 use Rattle.table_laws.specs.Counts.{lowest-is-free}
-use Rattle.table_laws.specs.Storables.{storable-peer, storable-begun}
-use Rattle.demand_kept.specs.Stored.{AllSmall, Still, all-acted-still}
+use Rattle.demand_kept.specs.Leaves.{whether-eq}
+use Rattle.demand_kept.specs.Acts.{AllReadable, Stays, all-acted-stays, components-readable}
+use Rattle.demand_kept.specs.Steps.{begun-control-fine, continued-fine}
 use Rattle.table_places.specs.Storing.{Storing, withWaiting}
 use Rattle.reading_components.specs.Bounds.{component-in}
 use Rattle.writing_octets.specs.Lengths.{element-length, length-small}
@@ -129,34 +128,16 @@ unfolding itemsOf
 shows-some me room c s m old new r h w = subst (λ (is : List Item). Shows me room c old is r new) (ne (m .from) 0 [] (components s (m .to) (m .from)) h refl) w
 
 -- ---- WHAT IS STORED
-items-small : (s : List ℕ) → Octets s → (lim n at : ℕ) → AllSmall (items s lim n at)
-unfolding items
-items-small s o lim zero at = tt
-items-small s o lim (suc n) at =
-    let w = component-in s o lim at (componentAt s lim at) refl in
-    (record { id = w .invoke; code = w .code }, go (ltb (nextStart lim (componentAt s lim at)) lim) (items-small s o lim n (nextStart lim (componentAt s lim at))))
-  where
-    go : (b : Bool) → AllSmall (items s lim n (nextStart lim (componentAt s lim at))) → AllSmall (goOn b (λ _. items s lim n (nextStart lim (componentAt s lim at))))
-    go true i = i
-    go false i = tt
-
-all-small : (s : List ℕ) (m : Message) → Octets s → AllSmall (itemsOf s m)
-unfolding itemsOf components
-all-small s m o =
-    by-eq {r = itemsOf s m} (m .from) 0 [] (components s (m .to) (m .from)) refl (λ h q. subst AllSmall (sym q) tt)
-    (λ h q. subst AllSmall (sym q) (items-small s o (m .to) (m .to - m .from + 1) (m .from)))
-
-pub acted-storing : (bit : ℕ) (t : List ℕ) (p : ℕ) → Standing bit t p → (s : List ℕ) (m : Message) → Read s m → (room : ℕ) (c d : Control) → Storable c → (c .state ≡ 0 → ⊥)
-    → d ≡ allActed room c (itemsOf s m) → Storing bit t p d
-acted-storing bit t p w s m v room c d g n e =
-    let k : Still c d = subst (Still c) (sym e) (all-acted-still room c (itemsOf s m) g (all-small s m (v .octets))) in
-    record { ready = w .ready; small = w .small; told = w .told; control = k .storable; state = λ z. n (sym (k .state) ∙ z) }
+pub acted-storing : (bit : ℕ) (t : List ℕ) (p : ℕ) → Standing bit t p → (s : List ℕ) (m : Message) → Read s m → (room : ℕ) → room ≤ 8 → (c d : Control) → FineControl c
+    → (c .state ≡ 0 → ⊥) → d ≡ allActed room c (itemsOf s m) → Storing bit t p d
+unfolding itemsOf
+acted-storing bit t p w s m v room h c d g n e =
+    let i : AllReadable (itemsOf s m) = whether-eq AllReadable _ _ _ _ tt (components-readable s (v .octets) (m .to) (m .from)) in
+    let k : Stays c d = subst (Stays c) (sym e) (all-acted-stays room h (itemsOf s m) i c g) in
+    record { ready = w .ready; small = w .small; told = w .told; control = k .fine; state = λ z. n (sym (k .state) ∙ z) }
 
 -- the dialogue in a used place
 module _ (t : List ℕ) (p : ℕ) (w : Standing 0 t p) where
-  pub used-storable : Storable (placeAt (view t) p .control)
-  used-storable = fine-storable (placeAt (view t) p .control) (w .ready .fine .each p (w .small) .control)
-
   pub used-state : placeAt (view t) p .control .state ≡ 0 → ⊥
   used-state z = omega (arith, w .told, flag-free (placeAt (view t) p) z)
 
@@ -174,10 +155,10 @@ uni-leaves T s m old new c r e v = let w = rowed-as refl e v in
 module _ (t s : List ℕ) (m : Message) (r : Shown) where
   -- a Begin
   module _ (service p turn : ℕ) (peer : List ℕ) (c : Control) (e : peer ≡ pad 4 (octetsAt s (m .origin))) (d : c ≡ begun turn dialogueReceived service (m .origin .length) peer) where
-    pub begun-storing : Standing 1 t p → Read s m → r .control ≡ allActed 8 c (itemsOf s m) → Storing 1 t p (r .control)
-    begun-storing w v q =
-        acted-storing 1 t p w s m v 8 c (r .control)
-        (subst Storable (sym d) (storable-begun turn dialogueReceived service (m .origin .length) peer (ap length e ∙ pad-length 4 (octetsAt s (m .origin)))))
+    pub begun-storing : Standing 1 t p → service < 16 → turn < 16777216 → 0 < m .origin .length → Read s m → r .control ≡ allActed 8 c (itemsOf s m) → Storing 1 t p (r .control)
+    begun-storing w h l o v q =
+        acted-storing 1 t p w s m v 8 (omega arith) c (r .control)
+        (subst FineControl (sym (d ∙ ap (begun turn dialogueReceived service (m .origin .length)) e)) (begun-control-fine s m (v .lies) o turn service l h))
         (λ z. omega (arith, ap (λ (x : Control). x .state) d)) q
 
     pub begin-leaves : (old new after : List ℕ) (me : ℕ) → turn ≡ placeAt (view t) p .control .turn → me ≡ localID p (placeAt (view t) p .control .turn) → Rowed rowBegin me 8 c s m old r new
@@ -197,17 +178,12 @@ module _ (t s : List ℕ) (m : Message) (r : Shown) where
   -- to an assigned dialogue
   module _ (me : ℕ) (c : Control) (e : c ≡ placeAt (view t) (placeOf me) .control) where
     module _ (d : Control) (q : d ≡ continuedControl c s m) where
-      continued-kept : Storable c → (c .state ≡ 0 → ⊥) → Storable d × (d .state ≡ 0 → ⊥)
-      unfolding continuedControl
-      continued-kept g n =
-          by-eq _ _ _ _ q
-          (λ h z. (subst Storable (sym z) (storable-peer c g (m .origin .length) (pad 4 (octetsAt s (m .origin))) (pad-length 4 (octetsAt s (m .origin)))), λ y. omega (arith, ap (λ (x : Control). x .state) z)))
-          (λ h z. (subst Storable (sym z) g, λ y. n (sym (ap (λ (x : Control). x .state) z) ∙ y)))
-
-      pub continued-storing : Standing 0 t (placeOf me) → Read s m → r .control ≡ allActed 8 d (itemsOf s m) → Storing 0 t (placeOf me) (r .control)
-      continued-storing w v a =
-          let k = continued-kept (subst Storable (sym e) (used-storable t (placeOf me) w)) (λ z. used-state t (placeOf me) w (ap (λ (x : Control). x .state) (sym e) ∙ z)) in
-          acted-storing 0 t (placeOf me) w s m v 8 d (r .control) (k .0) (k .1) a
+      pub continued-storing : Standing 0 t (placeOf me) → 0 < m .origin .length → Read s m → r .control ≡ allActed 8 d (itemsOf s m) → Storing 0 t (placeOf me) (r .control)
+      continued-storing w o v a =
+          let x : Control = placeAt (view t) (placeOf me) .control in
+          let k = continued-fine s m (v .lies) o x (w .ready .fine .each (placeOf me) (w .small) .control) (used-state t (placeOf me) w) in
+          let y : d ≡ continuedControl x s m = q ∙ ap (λ (c : Control). continuedControl c s m) e in
+          acted-storing 0 t (placeOf me) w s m v 8 (omega arith) d (r .control) (subst FineControl (sym y) (k .0)) (λ z. k .1 (ap (λ (c : Control). c .state) (sym y) ∙ z)) a
 
       pub continue-leaves : (old new after : List ℕ) → Rowed rowContinue me 8 d s m old r new → after ≡ encode (withPlace (view t) (placeOf me) (withControl (placeAt (view t) (placeOf me)) (r .control)))
           → Leaves (continueReceived (view t) me s m (placeAt (view t) (placeOf me))) (r .count) after old new

@@ -7,7 +7,7 @@ ghost use Rattle.laws.specs.If.{ifEq};
 ghost use Rattle.laws.specs.Lists.{pad};
 ghost use Rattle.paper.specs.Sizes.{placeOf};
 ghost use Rattle.paper.specs.Problems.{noProblem};
-ghost use Rattle.paper.specs.Messages.{messageOf, noRun};
+ghost use Rattle.paper.specs.Messages.{messageOf, isSound, noRun};
 ghost use Rattle.paper.specs.Kinds.{rowUserAbort, rowAbort};
 ghost use Rattle.paper.specs.Rows.{dialogueRow};
 ghost use Rattle.paper.specs.Dialogues.{begun};
@@ -217,7 +217,7 @@ fn uni_received(s: &[u8], m: Message, rows: &mut [u8]) -> u32
 
 // "Begin opens in Received."
 fn begin_at(t: &mut [u8], service: u32, p: usize, s: &[u8], m: Message, rows: &mut [u8]) -> u32
-    requires { ⌜ Standing 1 (now t) p × (service < 16) × Read (now s) m × (4096 ≤ length (now rows)) ⌝ }
+    requires { ⌜ Standing 1 (now t) p × (service < 16) × Read (now s) m × (4096 ≤ length (now rows)) × (0 < m .origin .length) ⌝ }
     ensures { λ r. ⌜ Leaves (beginAt (view (now (t .entry))) service p (now (s .entry)) m) r (now (t .exit)) (now (rows .entry)) (now (rows .exit)) ⌝ }
 {
     let turn = table_places::turn_at(t, p);
@@ -252,7 +252,7 @@ fn begin_received(
     rows: &mut [u8],
     space: &mut [u8],
 ) -> Received
-    requires { ⌜ Counts (now t) service n × Read (now s) m × (4096 ≤ length (now rows)) × (272 ≤ length (now space)) ⌝ }
+    requires { ⌜ Counts (now t) service n × Read (now s) m × (4096 ≤ length (now rows)) × (272 ≤ length (now space)) × (0 < m .origin .length) ⌝ }
     ensures { λ r. ⌜ Receives (beginReceived (view (now (t .entry))) service (now (s .entry)) m) r (now (t .exit)) (now (rows .entry)) (now (rows .exit)) (now (space .entry)) (now (space .exit)) ⌝ }
 {
     if may_begin(t, service, n) {
@@ -281,7 +281,7 @@ fn continued(c: Control, s: &[u8], m: Message) -> Control
 }
 
 fn continue_received(t: &mut [u8], me: u32, s: &[u8], m: Message, rows: &mut [u8]) -> u32
-    requires { ⌜ Standing 0 (now t) (placeOf me) × Read (now s) m × (4096 ≤ length (now rows)) ⌝ }
+    requires { ⌜ Standing 0 (now t) (placeOf me) × Read (now s) m × (4096 ≤ length (now rows)) × (0 < m .origin .length) ⌝ }
     ensures { λ r. ⌜ Leaves (continueReceived (view (now (t .entry))) me (now (s .entry)) m (placeAt (view (now (t .entry))) (placeOf me))) r (now (t .exit)) (now (rows .entry)) (now (rows .exit)) ⌝ }
 {
     let p = (me / 16777216) as usize;
@@ -338,7 +338,7 @@ fn to_dialogue(
     rows: &mut [u8],
     space: &mut [u8],
 ) -> Received
-    requires { ⌜ Standing 0 (now t) (placeOf me) × Read (now s) m × (4096 ≤ length (now rows)) × (272 ≤ length (now space)) ⌝ }
+    requires { ⌜ Standing 0 (now t) (placeOf me) × Read (now s) m × (4096 ≤ length (now rows)) × (272 ≤ length (now space)) × (m .fault ≡ isSound) ⌝ }
     ensures { λ r. ⌜ Receives (toDialogue (view (now (t .entry))) service me (now (s .entry)) m (placeAt (view (now (t .entry))) (placeOf me))) r (now (t .exit)) (now (rows .entry)) (now (rows .exit)) (now (space .entry)) (now (space .exit)) ⌝ }
 {
     let p = (me / 16777216) as usize;
@@ -370,7 +370,7 @@ fn sound_received(
     rows: &mut [u8],
     space: &mut [u8],
 ) -> Received
-    requires { ⌜ Counts (now t) service n × Read (now s) m × (4096 ≤ length (now rows)) × (272 ≤ length (now space)) ⌝ }
+    requires { ⌜ Counts (now t) service n × Read (now s) m × (4096 ≤ length (now rows)) × (272 ≤ length (now space)) × (m .fault ≡ isSound) ⌝ }
     ensures { λ r. ⌜ Receives (soundReceived (view (now (t .entry))) service (now (s .entry)) m) r (now (t .exit)) (now (rows .entry)) (now (rows .exit)) (now (space .entry)) (now (space .exit)) ⌝ }
 {
     if m.tag == 0x61 {

@@ -12,8 +12,7 @@ use Rattle.paper.specs.Rows.{cancelRow}
 use Rattle.paper.specs.Dialogues.{Place, withControl, needs, timeoutRows}
 use Rattle.paper.specs.Calls.{placeAt, withPlace}
 use Rattle.paper.specs.Layout.{encode, view}
-use Rattle.table_laws.specs.Octets.{fine-storable}
-use Rattle.table_laws.specs.Storables.{storable-idle}
+use Rattle.table_laws.specs.Keeps.{to-idle-fine}
 use Rattle.table_places.specs.Storing.{Storing}
 use Rattle.call_entry.specs.Prologue.{Used, used-storing}
 
@@ -33,7 +32,7 @@ module _ (t : List ℕ) (p id : ℕ) (c : Control) (e : c ≡ placeAt (view t) p
   unfolding toIdle
   storing-idle u d f =
       let x : Control = placeAt (view t) p .control in
-      subst (Storing 0 t p) (sym (f ∙ ap (λ (k : Control). toIdle k id) e)) (used-storing u (storable-idle x (fine-storable x (u .fine .control)) id) (u .state))
+      subst (Storing 0 t p) (sym (f ∙ ap (λ (k : Control). toIdle k id) e)) (used-storing u (to-idle-fine x (u .fine .control) id) (u .state))
 
   module _ (state i n : ℕ) (a : i ≡ slotOf (c .invocations) id) (b : n ≡ getD (c .invocations) i noInvocation .state) where
     pub not-idled : (n ≡ state → ⊥) → Idled t p id state 9 t

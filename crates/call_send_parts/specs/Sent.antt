@@ -16,11 +16,11 @@ use Rattle.paper.specs.Invocations.{allTransmitted}
 use Rattle.paper.specs.Dialogues.{Place, noReject, withState, withoutRejects, allRejects, waitingRejects, rejectsFit, sentComponents, afterSending}
 use Rattle.paper.specs.Calls.{placeAt}
 use Rattle.paper.specs.Layout.{flag, view}
-use Rattle.table_laws.specs.Fine.{FineControl, FinePlace, Storable}
+use Rattle.paper.specs.Rules.{hasPeer}
+use Rattle.table_laws.specs.Fine.{FineControl, FinePlace}
 use Rattle.table_laws.specs.Kept.{layer-small}
-use Rattle.table_laws.specs.Octets.{fine-storable}
 use Rattle.table_laws.specs.Ready.{Ready}
-use Rattle.table_laws.specs.Storables.{storable-state, storable-without, storable-transmitted}
+use Rattle.table_laws.specs.Keeps.{with-state-fine, without-rejects-fine, transmitted-fine}
 use Rattle.table_places.specs.Storing.{Storing, withWaiting}
 use Rattle.writing_octets.specs.Lengths.{rejectSize, reject-length}
 
@@ -40,6 +40,10 @@ pub record Sends (x : Place) (q : ℕ) (fits : Bool) (n : ℕ) : Type 0 where
   pub fit : fits ≡ rejectsFit x q
   pub long : n ≡ length (sentComponents x fits)
   pub most : q + n ≤ 240
+
+-- a dialogue's state that has a peer where the one before had
+abbrev pub Sendable : Control → ℕ → Type 0
+Sendable c state = (0 < state) × (state < 5) × (hasPeer state ≡ hasPeer (c .state))
 
 abbrev pub controlAfter : Control → ℕ → Bool → Control
 controlAfter c state fits = ifB fits (withoutRejects (allTransmitted (withState c state))) (allTransmitted (withState c state))
@@ -141,17 +145,15 @@ module _ (t : List ℕ) (p : ℕ) (c : Control) (h : Holds t p c) (state : ℕ) 
   abbrev after : Control
   after = allTransmitted (withState c state)
 
-  stored : Storable after
-  stored =
-      storable-transmitted (withState c state)
-      (storable-state c (fine-storable c (holds-fine h)) state)
-
-  pub after-storing : 0 < state → Storing 0 t p (controlAfter c state fits)
+  pub after-storing : Sendable c state → Storing 0 t p (controlAfter c state fits)
   unfolding allTransmitted ifB
-  after-storing g = go fits
+  after-storing (g, m, e) = go fits
     where
+      stored : FineControl after
+      stored = transmitted-fine (withState c state) (with-state-fine c (holds-fine h) state m e)
+
       go : (b : Bool) → Storing 0 t p (controlAfter c state b)
-      go true = record { ready = h .ready; small = h .small; told = h .told; control = storable-without after stored; state = λ z. omega (arith, z) }
+      go true = record { ready = h .ready; small = h .small; told = h .told; control = without-rejects-fine after stored; state = λ z. omega (arith, z) }
       go false = record { ready = h .ready; small = h .small; told = h .told; control = stored; state = λ z. omega (arith, z) }
 
   pub after-is : withWaiting (controlAfter c state fits) [] ≡ afterSending (placeAt (view t) p) fits state

@@ -15,7 +15,7 @@ ghost use Rattle.paper.specs.Layout.{encode, view};
 ghost use Rattle.table_laws.specs.Fine.{FineControl};
 ghost use Rattle.writing_octets.specs.Lengths.{Room};
 ghost use Rattle.call_send_parts.specs.Refused.{class4, isTold};
-ghost use Rattle.call_send_parts.specs.Sent.{Holds, Sends, controlAfter};
+ghost use Rattle.call_send_parts.specs.Sent.{Holds, Sends, Sendable, controlAfter};
 
 fn wide(x: u8) -> usize
     ensures { λ r. ⌜ r ≡ x ⌝ }
@@ -129,7 +129,7 @@ fn control_after(c: Control, state: u8, fits: bool) -> Control
 
 // What a sending leaves of the dialogue at place p, in its new state.
 pub fn leave_at(t: &mut [u8], p: usize, c: Control, state: u8, fits: bool)
-    requires { ⌜ Holds (now t) p c × (0 < state) ⌝ }
+    requires { ⌜ Holds (now t) p c × Sendable c state ⌝ }
     ensures { λ r. ⌜ now (t .exit) ≡ encode (withPlace (view (now (t .entry))) p (afterSending (placeAt (view (now (t .entry))) p) fits state)) ⌝ }
 {
     let d = control_after(c, state, fits);

@@ -20,7 +20,7 @@ use Rattle.paper.specs.Rows.{allActed}
 use Rattle.reading_components.specs.Bounds.{component-in}
 use Rattle.table_laws.specs.Fine.{Octets, FineControl}
 use Rattle.demand_kept.specs.Leaves.{null-leaf, after-leaf}
-use Rattle.demand_kept.specs.Controls.{to-idle-fine, to-state-fine, shown-fine, with-reject-fine}
+use Rattle.table_laws.specs.Keeps.{to-idle-fine, to-state-fine, shown-fine, with-reject-fine}
 
 -- A COMPONENT AS IT IS READ: only a reject that is sound may lack its ID
 pub record Readable (p : Component) : Type 0 where

@@ -1,8 +1,5 @@
-pub mod Invocations
-pub mod Controls
 pub mod Leaves
 pub mod Acts
-pub mod Stored
 pub mod Carried
 pub mod Listed
 pub mod Waiting

@@ -5,18 +5,17 @@ use mathlib.Core.List.{List, [], _++_}
 use Prim.Native.Nat.{ℕ, _+_, _≤_, _<_}
 use native.Mathlib.Omega.{arith}
 use lib.ListN.{length, length-append}
-use Rattle.laws.specs.If.{ifEq, by-eq, was-ge, was-eq, was-yes, by-b, true-false}
+use Rattle.laws.specs.If.{by-eq, was-ge, was-eq, was-yes, by-b, true-false}
 use Rattle.paper.specs.declared.Control.{Control}
 use Rattle.paper.specs.Problems.{kindOf}
 use Rattle.paper.specs.Components.{noID}
 use Rattle.paper.specs.Writing.{invokeOctets, resultOctets, errorOctets, rejectOctets, Written, octetsOf}
 use Rattle.paper.specs.Invocations.{invocationOf, stateOf, toState, toIdle, passed, allTransmitted, mayReject}
-use Rattle.paper.specs.Dialogues.{Place, Request, Invoke, Result, Error, UserReject, Cancel, Begin, Continue, End, Prearranged, Abort, Unidirectional, Timeout, RejectTimeout, NoReaction, freed, begun, withControl, withState, withoutRejects, overfull, invokeRefusal, resultRefusal, errorRefusal, rejectRefusal, rejectedBy, afterSending, needsOpen, needsPeer, refusal, does}
+use Rattle.paper.specs.Dialogues.{Place, Request, Invoke, Result, Error, UserReject, Cancel, Begin, Continue, End, Prearranged, Abort, Unidirectional, Timeout, RejectTimeout, NoReaction, freed, withControl, withState, withoutRejects, overfull, invokeRefusal, resultRefusal, errorRefusal, rejectRefusal, rejectedBy, afterSending, needsOpen, needsPeer, refusal, does}
 use Rattle.paper.specs.Rules.{hasPeer}
 use Rattle.demand_readback.specs.Written.{ResultTag, Allowed}
-use Rattle.table_laws.specs.Fine.{FinePeer, FineControl, FinePlace}
-use Rattle.table_laws.specs.Slots.{empty-fine}
-use Rattle.demand_kept.specs.Controls.{passed-fine, to-state-fine, to-idle-fine, transmitted-fine}
+use Rattle.table_laws.specs.Fine.{FineControl, FinePlace}
+use Rattle.table_laws.specs.Keeps.{begin-peer, continue-peer, passed-fine, to-state-fine, to-idle-fine, transmitted-fine, with-state-fine, without-rejects-fine}
 use Rattle.demand_kept.specs.Acts.{Stays, unchanged}
 use Rattle.demand_kept.specs.Waiting.{kept-none, waiting-append, written-kept}
 use Rattle.demand_kept.specs.Portions.{first-none, room-told}
@@ -26,57 +25,6 @@ pub record GoesOn (x y : Place) : Type 0 where
   pub fine : FinePlace y
   pub state : y .control .state ≡ 0 → ⊥
   pub service : y .control .service ≡ x .control .service
-
--- "1 to 4 octets in Received and Active and none in Open and Sent"
-pub peers : (hasPeer 1 ≡ false) × (hasPeer 2 ≡ false) × (hasPeer 3 ≡ true) × (hasPeer 4 ≡ true)
-unfolding hasPeer ifEq
-peers = (refl, refl, refl, refl)
-
--- NEW CONTROL RECORDS: in another state with a peer as before, without rejects, begun
-pub with-state-fine : (c : Control) → FineControl c → (state : ℕ) → state < 5 → hasPeer state ≡ hasPeer (c .state) → FineControl (withState c state)
-with-state-fine c f state h e = record {
-  turn = f .turn;
-  state = h;
-  service = f .service;
-  four = f .four;
-  peer = record { some = λ z. f .peer .some (sym e ∙ z); none = λ z. f .peer .none (sym e ∙ z); most = f .peer .most; rest = f .peer .rest };
-  count = f .count;
-  eight = f .eight;
-  invocations = f .invocations;
-  eights = f .eights;
-  rejects = f .rejects;
-}
-
-pub without-rejects-fine : (c : Control) → FineControl c → FineControl (withoutRejects c)
-without-rejects-fine c f = record {
-  turn = f .turn;
-  state = f .state;
-  service = f .service;
-  four = f .four;
-  peer = record { some = f .peer .some; none = f .peer .none; most = f .peer .most; rest = f .peer .rest };
-  count = omega arith;
-  eight = f .eight;
-  invocations = f .invocations;
-  eights = refl;
-  rejects = empty-fine 0 (omega arith) .control .rejects;
-}
-
-pub begun-fine : (turn state service peerlen : ℕ) (peer : List ℕ) → turn < 16777216 → state < 5 → service < 16 → length peer ≡ 4
-    → FinePeer (begun turn state service peerlen peer) → FineControl (begun turn state service peerlen peer)
-begun-fine turn state service peerlen peer a b c d e =
-    let f = empty-fine 0 (omega arith) .control in
-    record {
-      turn = a;
-      state = b;
-      service = c;
-      four = d;
-      peer = e;
-      count = omega arith;
-      eight = refl;
-      invocations = f .invocations;
-      eights = refl;
-      rejects = f .rejects;
-    }
 
 -- a place with a dialogue and no waiting octets is fine where its control record is
 pub place-fine : (c : Control) → FineControl c → (c .state ≡ 0 → ⊥) → FinePlace (record { control = c; waiting = [] })
@@ -212,15 +160,11 @@ module _ (x : Place) (f : FinePlace x) (used : x .control .state ≡ 0 → ⊥) 
 
   begin-goes-on : (fits : Bool) → needsOpen x ≡ 0 → GoesOn x (afterSending x fits 2)
   unfolding needsOpen
-  begin-goes-on fits e =
-      let a = was-eq _ _ _ _ (sym e) (λ z. omega arith) in
-      sent-goes-on fits 2 (omega arith) (omega arith) (peers .1 ∙ sym (ap hasPeer (a .0) ∙ peers .0))
+  begin-goes-on fits e = sent-goes-on fits 2 (omega arith) (omega arith) (begin-peer (x .control .state) (sym e))
 
   continue-goes-on : (fits : Bool) → needsPeer x ≡ 0 → GoesOn x (afterSending x fits 4)
   unfolding needsPeer
-  continue-goes-on fits e =
-      by-eq _ _ _ _ (sym e) (λ a z. sent-goes-on fits 4 (omega arith) (omega arith) (peers .3 ∙ sym (ap hasPeer a ∙ peers .2)))
-      (λ a z. let b = was-eq _ _ _ _ z (λ z. omega arith) in sent-goes-on fits 4 (omega arith) (omega arith) (sym (ap hasPeer (b .0))))
+  continue-goes-on fits e = sent-goes-on fits 4 (omega arith) (omega arith) (continue-peer (x .control .state) (sym e))
 
 -- A REQUEST AS A CALLER CAN MAKE IT: IDs are octets, a linked one 256 for none, a result's tag is A2 or A7
 abbrev pub Formed : Request → Type 0

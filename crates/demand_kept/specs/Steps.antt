@@ -18,13 +18,15 @@ use Rattle.paper.specs.Kinds.{rowUni, rowBegin, rowContinue, rowEnd, rowUserAbo
 use Rattle.paper.specs.Rows.{allActed, componentRows, dialogueRow, cancelRow}
 use Rattle.paper.specs.Dialogues.{Place, Request, Invoke, Result, Error, UserReject, Cancel, Begin, Continue, End, Prearranged, Abort, Unidirectional, Timeout, RejectTimeout, NoReaction, Done, emptyControl, begun, freed, withControl, timeoutRows, unlessRefused, refusal, does, request}
 use Rattle.paper.specs.Calls.{Table, placeAt, withPlace, lowestFree, Out, stored, requested, opened, octetsAt, destinationNumber, assigned, faultedAt, faulted, itemsOf, uniReceived, begunControl, beginAt, beginReceived, continuedControl, continueReceived, endReceived, abortReceived, toDialogue, soundReceived, received, receivedIf, Call, Open, OnDialogue, Receive, refuse, ofService, step, held}
+use Rattle.paper.specs.Rules.{hasPeer}
 use Rattle.reading_messages.specs.Bounds.{MessageIn, message-in}
-use Rattle.table_laws.specs.Fine.{Octets, FineControl, Fine}
+use Rattle.table_laws.specs.Fine.{Octets, FinePeer, FineControl, Fine}
 use Rattle.table_laws.specs.Zeros.{zeros-of, pad-length, pad-rest}
 use Rattle.table_laws.specs.Owners.{Owned, owned-is}
 use Rattle.demand_kept.specs.Leaves.{whether-eq}
 use Rattle.demand_kept.specs.Acts.{AllReadable, all-acted-stays, components-readable}
-use Rattle.demand_kept.specs.Requests.{peers, begun-fine, place-fine, control-goes-on, Formed, frees, Leaves, does-kept}
+use Rattle.table_laws.specs.Keeps.{peers, begun-fine, with-peer-fine}
+use Rattle.demand_kept.specs.Requests.{place-fine, control-goes-on, Formed, frees, Leaves, does-kept}
 use Rattle.paper.specs.Counting.{toldBy, isBegun, isEnded, begunRows, endedRows, endsBy, serviceOf, begunBy, endedBy}
 use Rattle.demand_kept.specs.Counted.{row-begun, row-ended, row-other, components-none}
 use Rattle.demand_kept.specs.Shared.{Moved, moved-as, not-moved, moved-freed, moved-on, moved-taken, lowest-there}
@@ -132,6 +134,35 @@ module _ (T : Table) (f : Fine T) where
           by-eq {r = stored T p (unlessRefused (suc n) x (does dialogue x r)) .table} _ _ _ _ refl
           (λ a z. absurd (omega arith)) (λ a z. subst (Moved T service 0 0) (sym z) (not-moved T f service))
 
+-- WHAT A MESSAGE TELLS OF ITS SENDER: an ID of 1 to 4 octets
+module _ (s : List ℕ) (m : Message) (in-s : MessageIn (length s) m) where
+  abbrev origin : List ℕ
+  origin = octetsAt s (m .origin)
+
+  pub origin-length : length origin ≡ m .origin .length
+  origin-length = simp (length-take, length-drop) (omega (arith, in-s .origin .lies))
+
+  module _ (some : 0 < m .origin .length) where
+    origin-fine : (state : ℕ) → hasPeer state ≡ true → FinePeer state (m .origin .length) (pad 4 origin)
+    origin-fine state e = record {
+      some = λ z. omega arith;
+      none = λ z. absurd (true-false (sym e ∙ z));
+      most = in-s .origin .short;
+      rest = subst (λ (n : ℕ). zeros (drop n (pad 4 origin)) ≡ true) origin-length (pad-rest 4 origin (omega (arith, origin-length, in-s .origin .short)) .1);
+    }
+
+    -- a Begin's dialogue
+    pub begun-control-fine : (turn service : ℕ) → turn < 16777216 → service < 16 → FineControl (begun turn 3 service (m .origin .length) (pad 4 origin))
+    begun-control-fine turn service h g = begun-fine turn 3 service (m .origin .length) (pad 4 origin) h (omega arith) g (pad-length 4 origin) (origin-fine 3 (peers .2))
+
+    -- a Continue's: in Sent it stores the peer's ID
+    pub continued-fine : (c : Control) → FineControl c → (c .state ≡ 0 → ⊥)
+        → FineControl (continuedControl c s m) × (continuedControl c s m .state ≡ 0 → ⊥) × (continuedControl c s m .service ≡ c .service)
+    unfolding continuedControl
+    continued-fine c k n =
+        whether-eq (λ (d : Control). FineControl d × (d .state ≡ 0 → ⊥) × (d .service ≡ c .service)) _ _ _ _
+        (with-peer-fine c k (m .origin .length) (pad 4 origin) (pad-length 4 origin) (origin-fine 4 (peers .3)), λ e. omega arith, refl) (k, n, refl)
+
 -- A RECEIVED MESSAGE, as it is read
 module _ (T : Table) (f : Fine T) (service : ℕ) (s< : service < 16) (s : List ℕ) (octets : Octets s) (m : Message) (in-s : MessageIn (length s) m) where
   -- what it shows counts
@@ -174,18 +205,6 @@ module _ (T : Table) (f : Fine T) (service : ℕ) (s< : service < 16) (s : List 
   unfolding itemsOf
   items-readable = whether-eq AllReadable _ _ _ _ tt (components-readable s octets (m .to) (m .from))
 
-  -- the peer's ID, of 1 to 4 octets
-  abbrev origin : List ℕ
-  origin = octetsAt s (m .origin)
-
-  pub origin-length : length origin ≡ m .origin .length
-  origin-length = simp (length-take, length-drop) (omega (arith, in-s .origin .lies))
-
-  origin-rest : zeros (drop (m .origin .length) (pad 4 origin)) ≡ true
-  origin-rest =
-      subst (λ (n : ℕ). zeros (drop n (pad 4 origin)) ≡ true) origin-length
-      (pad-rest 4 origin (omega (arith, origin-length, in-s .origin .short)) .1)
-
   -- UNIDIRECTIONAL: rows alone
   uni-kept : Shown (uniReceived T s m)
   unfolding uniReceived
@@ -197,12 +216,6 @@ module _ (T : Table) (f : Fine T) (service : ℕ) (s< : service < 16) (s : List 
       moved-as (not-moved T f service) (omega arith) (omega arith)
 
   -- BEGIN takes a place
-  pub begun-control-fine : m .fault ≡ isSound → m .tag ≡ beginTag → (p : ℕ) → p < 128 → FineControl (begunControl T service p s m)
-  begun-control-fine sound tag p h =
-      let some : 0 < m .origin .length = in-s .begins sound tag in
-      begun-fine (placeAt T p .control .turn) 3 service (m .origin .length) (pad 4 origin) (turn-small T f p h) (omega arith) s< (pad-length 4 origin)
-      (record { some = λ z. omega arith; none = λ z. absurd (true-false (sym (peers .2) ∙ z)); most = in-s .origin .short; rest = origin-rest })
-
   begin-kept : m .fault ≡ isSound → m .tag ≡ beginTag → Shown (beginReceived T service s m)
   unfolding beginReceived beginAt
   begin-kept sound tag =
@@ -211,7 +224,7 @@ module _ (T : Table) (f : Fine T) (service : ℕ) (s< : service < 16) (s : List 
       let p : ℕ = lowestFree T in
       let h : p < 128 = lowest-there T f service s< may in
       let c : Control = begunControl T service p s m in
-      let g : FineControl c = begun-control-fine sound tag p h in
+      let g : FineControl c = begun-control-fine s m in-s (in-s .begins sound tag) (placeAt T p .control .turn) service (turn-small T f p h) s< in
       let w = all-acted-stays 8 (omega arith) (itemsOf s m) items-readable c g in
       let n : allActed 8 c (itemsOf s m) .state ≡ 0 → ⊥ = λ e. omega (arith, w .state) in
       let rows : List Row = componentRows (localID p (placeAt T p .control .turn)) 8 c (itemsOf s m) in
@@ -222,41 +235,12 @@ module _ (T : Table) (f : Fine T) (service : ℕ) (s< : service < 16) (s : List 
       (omega arith) (omega arith)))
       (λ may z. shown z (faulted-kept 4))
 
-  -- CONTINUE goes on: in Sent it stores the peer's ID
-  pub continued-fine : Owned T service me → m .fault ≡ isSound → m .tag ≡ continueTag → FineControl (continuedControl (there .control) s m)
-      × (continuedControl (there .control) s m .state ≡ 0 → ⊥) × (continuedControl (there .control) s m .service ≡ there .control .service)
-  unfolding continuedControl
-  continued-fine g sound tag =
-      let c : Control = there .control in
-      let k : FineControl c = f .each (placeOf me) (g .small) .control in
-      let some : 0 < m .origin .length = in-s .continues sound tag in
-      by-eq {r = continuedControl c s m} _ _ _ _ refl
-      (λ a z. subst Fits (sym z) (
-        record {
-          turn = k .turn;
-          state = omega arith;
-          service = k .service;
-          four = pad-length 4 origin;
-          peer = record { some = λ z. omega arith; none = λ z. absurd (true-false (sym (peers .3) ∙ z)); most = in-s .origin .short; rest = origin-rest };
-          count = k .count;
-          eight = k .eight;
-          invocations = k .invocations;
-          eights = k .eights;
-          rejects = k .rejects;
-        },
-        λ e. omega arith,
-        refl,
-      ))
-      (λ a z. subst Fits (sym z) (k, g .state, refl))
-    where
-      Fits : Control → Type 0
-      Fits d = FineControl d × (d .state ≡ 0 → ⊥) × (d .service ≡ there .control .service)
-
+  -- CONTINUE goes on
   continue-kept : Owned T service me → m .fault ≡ isSound → m .tag ≡ continueTag → Shown (continueReceived T me s m there)
   unfolding continueReceived
   continue-kept g sound tag =
       let c : Control = continuedControl (there .control) s m in
-      let k = continued-fine g sound tag in
+      let k = continued-fine s m in-s (in-s .continues sound tag) (there .control) (f .each (placeOf me) (g .small) .control) (g .state) in
       let w = all-acted-stays 8 (omega arith) (itemsOf s m) items-readable c (k .0) in
       let d : Control = allActed 8 c (itemsOf s m) in
       let rows : List Row = componentRows me 8 c (itemsOf s m) in

@@ -19,8 +19,8 @@ use Rattle.paper.specs.Invocations.{pending, wait, rejecting, noInvocation, isO
 use Rattle.paper.specs.Asked.{releases, wasShown, faultHeard, rejectHeard, heardOf}
 use Rattle.paper.specs.Dialogues.{rejectedBy}
 use Rattle.table_laws.specs.Fine.{FineInvocations, FineControl}
-use Rattle.demand_kept.specs.Invocations.{At, found-open, opens, isOpen-ne, idle-free, idle-slot, none-same, at-transmitted}
-use Rattle.demand_kept.specs.Controls.{there}
+use Rattle.table_laws.specs.Invocations.{At, found-open, opens, isOpen-ne, idle-free, idle-slot, none-same, at-transmitted}
+use Rattle.table_laws.specs.Keeps.{there}
 use Rattle.demand_kept.specs.Leaves.{whether-eq}
 use Rattle.demand_kept.specs.Acts.{Readable}
 

@@ -80,7 +80,7 @@ module _ (T : Table) (f : Fine T) (L : Ledger) (g : Agrees T L) (service : ℕ) 
   origin = octetsAt s (m .origin)
 
   long : length origin ≡ m .origin .length
-  long = origin-length T f service s< s octets m in-s
+  long = origin-length s m in-s
 
   -- WHAT IT LEAVES AND WRITES
   pub record Heard (o : Out) : Type 0 where
@@ -212,7 +212,7 @@ module _ (T : Table) (f : Fine T) (L : Ledger) (g : Agrees T L) (service : ℕ) 
         let c : Control = begunControl T service p s m in
         let id : ℕ = localID p (placeAt T p .control .turn) in
         let rows : List Row = componentRows id 8 c (itemsOf s m) in
-        let k = begun-control-fine T f service s< s octets m in-s sound t p h in
+        let k = begun-control-fine s m in-s (in-s .begins sound t) (placeAt T p .control .turn) service (f .each p h .control .turn) s< in
         let w = all-left id (itemsOf s m) (items-readable T f service s< s octets m in-s) c k in
         let peer : peerOf c ≡ origin = ap (λ (n : ℕ). take n (pad 4 origin)) (sym long) ∙ pad-rest 4 origin (omega (arith, long, in-s .origin .short)) .0 in
         is z (quiet _ _
@@ -289,7 +289,7 @@ module _ (T : Table) (f : Fine T) (L : Ledger) (g : Agrees T L) (service : ℕ) 
       continue-heard n t =
           let c : Control = continuedControl (there .control) s m in
           let k = continued n t in
-          let fine = continued-fine T f service s< s octets m in-s (w .owned) sound t .0 in
+          let fine = continued-fine s m in-s (in-s .continues sound t) (there .control) (f .each (placeOf me) (w .owned .small) .control) (w .owned .state) .0 in
           let v = all-left me (itemsOf s m) (items-readable T f service s< s octets m in-s) c fine in
           let rows : List Row = componentRows me 8 c (itemsOf s m) in
           quiet _ _

@@ -33,7 +33,7 @@ use Rattle.demand_readback.specs.Contents.{nothing-content, begin-fits, begin-c
 use Rattle.demand_readback.specs.Spoken.{abort-formed, abort-spoken}
 use Rattle.table_laws.specs.Fine.{FinePlace, Fine}
 use Rattle.demand_kept.specs.Leaves.{whether-eq}
-use Rattle.demand_kept.specs.Controls.{passed-fine, to-idle-fine}
+use Rattle.table_laws.specs.Keeps.{passed-fine, to-idle-fine}
 use Rattle.demand_kept.specs.Portions.{first-none}
 use Rattle.demand_kept.specs.Requests.{Formed, requestOf, passed-taken, invoke-told, reject-told, rejected-by-stays}
 use Rattle.demand_ledger.specs.Lookups.{idle-lookup, passed-lookup, rejected-lookup}

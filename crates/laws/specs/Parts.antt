@@ -73,7 +73,7 @@ shift x l k v =
     ∙ ap (λ (y : List ℕ). (x ++ take k l) ++ (v ++ y)) (drop-append-add x l (k + length v))
     ∙ append-assoc x (take k l) (v ++ drop (k + length v) l)
 
-stay : (y z : List ℕ) (k : ℕ) (v : List ℕ) → k + length v ≤ length y → over (y ++ z) k v ≡ over y k v ++ z
+pub stay : (y z : List ℕ) (k : ℕ) (v : List ℕ) → k + length v ≤ length y → over (y ++ z) k v ≡ over y k v ++ z
 unfolding over
 stay y z k v h =
     ap (λ (w : List ℕ). w ++ (v ++ drop (k + length v) (y ++ z))) (take-append-le k y z (omega arith))

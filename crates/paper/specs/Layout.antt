@@ -1,12 +1,12 @@
 -- THE OCTET FORM OF THE TABLE (docs/TABLE.md has it as a picture): each field is said once, in order, with its width and what it holds.
 -- Assumes nothing.
-use mathlib.Core.List.{List, [], _∷_, _++_, map}
-use Prim.Native.Nat.{ℕ, zero, suc, _+_, _*_, _-_, _/_, _%_}
+use mathlib.Core.List.{List, [], _∷_, map}
+use Prim.Native.Nat.{ℕ, _+_, _*_, _-_, _/_, _%_}
 use lib.ListN.{length, getD, take, drop}
 use Rattle.laws.specs.If.{ifB}
 use Rattle.laws.specs.Lists.{tab, pad}
 use Rattle.laws.specs.Digits.{packedOctets, octetDigits}
-use Rattle.laws.specs.Fields.{Field, field, laidOut, total, offset}
+use Rattle.laws.specs.Fields.{Field, field, laidOut, total, offset, records, pairs, pairsAt}
 use Rattle.paper.specs.declared.Invocation.{Invocation}
 use Rattle.paper.specs.declared.Reject.{Reject}
 use Rattle.paper.specs.declared.Control.{Control}
@@ -16,14 +16,18 @@ use Rattle.paper.specs.Dialogues.{Place}
 use Rattle.paper.specs.Calls.{Table, isFree}
 
 -- An invocation is two octets: its ID; state, class times 8, shown times 64
+abbrev pub invocationMark : Invocation → ℕ
+invocationMark v = v .state + v .class * 8 + v .shown * 64
+
 abbrev pub invocationOctets : List Invocation → List ℕ
-invocationOctets [] = []
-invocationOctets (v ∷ l) = v .id ∷ (v .state + v .class * 8 + v .shown * 64) ∷ invocationOctets l
+invocationOctets l = pairs (λ v. v .id) invocationMark l
 
 -- a waiting reject is two octets: its ID, or 0; code, kind times 8, 128 where there is no ID
+abbrev pub rejectMark : Reject → ℕ
+rejectMark r = codeOf (r .problem) + kindOf (r .problem) * 8 + r .id / 256 * 128
+
 abbrev pub waitingRejectOctets : List Reject → List ℕ
-waitingRejectOctets [] = []
-waitingRejectOctets (r ∷ l) = r .id % 256 ∷ (codeOf (r .problem) + kindOf (r .problem) * 8 + r .id / 256 * 128) ∷ waitingRejectOctets l
+waitingRejectOctets l = pairs (λ r. r .id % 256) rejectMark l
 
 -- A PLACE: turn, high first; state; service; length of the peer's ID, and that ID; length of the waiting octets; number of waiting
 -- rejects; the invocations; the rejects; the waiting octets
@@ -78,10 +82,6 @@ firstReject = offset placeFields 8
 abbrev pub waitingStart : ℕ
 waitingStart = offset placeFields 9
 
-unfoldable pub allPlaces : List Place → List ℕ
-allPlaces [] = []
-allPlaces (x ∷ ps) = placeOctets x ++ allPlaces ps
-
 -- "a map of 64-bit words, one bit a place": bit p is set where place p is free, each word's octets least significant first
 unfoldable pub flag : Place → ℕ
 flag x = ifB (isFree x) 1 0
@@ -98,7 +98,7 @@ tableFields =
     field mapSize (λ T. mapOctets (T .places))
     ∷ field services (λ T. T .guarantees)
     ∷ field services (λ T. T .limits)
-    ∷ field (placesInAll * placeSize) (λ T. allPlaces (T .places))
+    ∷ field (placesInAll * placeSize) (λ T. records placeOctets (T .places))
     ∷ []
 
 abbrev pub tableSize : ℕ
@@ -121,15 +121,13 @@ abbrev pub invocationBy : ℕ → ℕ → Invocation
 invocationBy id o = record { id = id; class = o / 8 % 8; state = o % 8; shown = o / 64 }
 
 abbrev pub invocationsAt : ℕ → ℕ → List ℕ → List Invocation
-invocationsAt zero a s = []
-invocationsAt (suc n) a s = invocationBy (getD s a 0) (getD s (suc a) 0) ∷ invocationsAt n (suc (suc a)) s
+invocationsAt n a s = pairsAt invocationBy n a s
 
 abbrev pub rejectBy : ℕ → ℕ → Reject
 rejectBy id o = record { id = o / 128 * 256 + id; problem = problem (o / 8 % 16) (o % 8) }
 
 abbrev pub rejectsAt : ℕ → ℕ → List ℕ → List Reject
-rejectsAt zero a s = []
-rejectsAt (suc n) a s = rejectBy (getD s a 0) (getD s (suc a) 0) ∷ rejectsAt n (suc (suc a)) s
+rejectsAt n a s = pairsAt rejectBy n a s
 
 abbrev pub controlBy : List ℕ → Control
 controlBy s = record {

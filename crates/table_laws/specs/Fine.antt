@@ -8,7 +8,7 @@ use Rattle.laws.specs.Lists.{zeros}
 use Rattle.paper.specs.declared.Invocation.{Invocation}
 use Rattle.paper.specs.declared.Reject.{Reject}
 use Rattle.paper.specs.declared.Control.{Control}
-use Rattle.paper.specs.Problems.{senderOfProblem, byLayer, kindOf, codeOf}
+use Rattle.paper.specs.Problems.{senderOfProblem, byLayer, kindOf}
 use Rattle.paper.specs.Invocations.{noInvocation}
 use Rattle.paper.specs.Dialogues.{Place, emptyPlace, noReject}
 use Rattle.paper.specs.Calls.{Table, placeAt}
@@ -44,11 +44,11 @@ pub record FineRejects (n : ℕ) (l : List Reject) : Type 0 where
   pub rest : (i : ℕ) → n ≤ i → i < length l → getD l i noReject ≡ noReject
 
 -- "a peer ID has 1 to 4 octets in Received and Active and none in Open and Sent"
-pub record FinePeer (c : Control) : Type 0 where
-  pub some : hasPeer (c .state) ≡ true → 1 ≤ c .peerlen
-  pub none : hasPeer (c .state) ≡ false → c .peerlen ≡ 0
-  pub most : c .peerlen ≤ 4
-  pub rest : zeros (drop (c .peerlen) (c .peer)) ≡ true
+pub record FinePeer (state peerlen : ℕ) (peer : List ℕ) : Type 0 where
+  pub some : hasPeer state ≡ true → 1 ≤ peerlen
+  pub none : hasPeer state ≡ false → peerlen ≡ 0
+  pub most : peerlen ≤ 4
+  pub rest : zeros (drop peerlen peer) ≡ true
 
 -- "states, services, classes and lengths are in range"
 pub record FineControl (c : Control) : Type 0 where
@@ -56,22 +56,12 @@ pub record FineControl (c : Control) : Type 0 where
   pub state : c .state < 5
   pub service : c .service < 16
   pub four : length (c .peer) ≡ 4
-  pub peer : FinePeer c
+  pub peer : FinePeer (c .state) (c .peerlen) (c .peer)
   pub count : c .count ≤ 8
   pub eight : length (c .invocations) ≡ 8
   pub invocations : FineInvocations (c .invocations)
   pub eights : length (c .rejects) ≡ 8
   pub rejects : FineRejects (c .count) (c .rejects)
-
--- what a store of a control record asks of it: that its lists have their lengths and its octets' parts go into their bits
-pub record Storable (c : Control) : Type 0 where
-  pub four : length (c .peer) ≡ 4
-  pub eight : length (c .invocations) ≡ 8
-  pub invocations : (i : ℕ) → i < 8 → (getD (c .invocations) i noInvocation .state < 8)
-      × (getD (c .invocations) i noInvocation .class < 8) × (getD (c .invocations) i noInvocation .shown < 4)
-  pub eights : length (c .rejects) ≡ 8
-  pub rejects : (i : ℕ) → i < 8 → (getD (c .rejects) i noReject .id < 512)
-      × (kindOf (getD (c .rejects) i noReject .problem) < 16) × (codeOf (getD (c .rejects) i noReject .problem) < 8)
 
 -- "a free place is all zero but its turn"; "waiting octets are whole components, well formed and with the pieces that Coding gives"
 pub record FinePlace (x : Place) : Type 0 where

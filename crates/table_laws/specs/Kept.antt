@@ -246,7 +246,7 @@ layer-small kind code e = by-eq _ _ _ _ (sym e) zero-kind (λ n q. by-eq _ _ _ _
         (omega arith, omega (arith, a .0))
 
 -- ---- the peer
-peer-is : (c : Control) → peerKept c ≡ true → FinePeer c
+peer-is : (c : Control) → peerKept c ≡ true → FinePeer (c .state) (c .peerlen) (c .peer)
 unfolding peerKept
 peer-is c e = go (hasPeer (c .state)) refl
   where
@@ -256,7 +256,7 @@ peer-is c e = go (hasPeer (c .state)) refl
     without : Bool
     without = ifEq (c .peerlen) 0 (zeros (c .peer)) false
 
-    go : (b : Bool) → hasPeer (c .state) ≡ b → FinePeer c
+    go : (b : Bool) → hasPeer (c .state) ≡ b → FinePeer (c .state) (c .peerlen) (c .peer)
     go true q =
         let w : true ≡ with-one = sym e ∙ sym (yes (hasPeer (c .state)) with-one without q refl) in
         let a = was-ge (c .peerlen) 1 false (ifLt 4 (c .peerlen) false (zeros (drop (c .peerlen) (c .peer)))) w true-false in
@@ -272,7 +272,7 @@ peer-is c e = go (hasPeer (c .state)) refl
           rest = ap (λ (n : ℕ). zeros (drop n (c .peer))) (a .0) ∙ sym (a .1);
         }
 
-peer-kept : (c : Control) → FinePeer c → peerKept c ≡ true
+peer-kept : (c : Control) → FinePeer (c .state) (c .peerlen) (c .peer) → peerKept c ≡ true
 unfolding peerKept
 peer-kept c f = go (hasPeer (c .state)) refl
   where

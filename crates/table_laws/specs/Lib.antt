@@ -9,4 +9,5 @@ pub mod Counts
 pub mod Stores
 pub mod Owners
 pub mod Changes
-pub mod Storables
+pub mod Invocations
+pub mod Keeps

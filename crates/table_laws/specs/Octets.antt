@@ -1,250 +1,164 @@
 -- A PLACE AND ITS OCTETS: each is had back from the other. Assumes nothing.
 use mathlib.Core.Path.{_≡_, refl, sym, ap, subst, _∙_}
 use mathlib.Core.Bool.{Bool, true, false}
-use mathlib.Core.List.{List, [], _∷_, _++_, append-assoc}
-use Prim.Native.Nat.{ℕ, zero, suc, _+_, _*_, _-_, _/_, _%_, _<_, _≤_}
+use mathlib.Core.List.{List, [], _∷_, _++_}
+use Prim.Native.Nat.{ℕ, suc, _+_, _*_, _-_, _/_, _%_, _<_, _≤_}
 use native.Mathlib.Omega.{arith}
-use native.Mathlib.Nat.{add-zero, div-div-eq-div-mul}
+use native.Mathlib.Nat.{div-div-eq-div-mul}
 use lib.Dec.{ltb}
 use borrow.Author.Tests.{ltb-true, ltb-false}
-use lib.ListN.{length, getD, take, drop, length-append, length-drop}
-use lib.Seq.{drop-cons, drop-drop, drop-at, length-take-le, take-length}
-use Rattle.laws.specs.Lists.{zeros, pad, span, span-part, span-drop}
+use lib.ListN.{length, getD, take, drop, replicate, length-drop, length-replicate}
+use lib.Seq.{drop-drop, getD-drop, length-take-le, take-all}
+use Rattle.laws.specs.Lists.{zeros, pad, span, span-part}
+use Rattle.laws.specs.Fields.{laidOut, Sized, sized-take, laid-length, laid-split, laid-drop, field-at, laid-from, pairs-length, pairs-at, pairs-from, pairsAt, offset}
 use Rattle.paper.specs.declared.Invocation.{Invocation}
 use Rattle.paper.specs.declared.Reject.{Reject}
 use Rattle.paper.specs.declared.Control.{Control}
-use Rattle.paper.specs.Sizes.{three}
+use Rattle.paper.specs.Sizes.{mostInvocations, mostRejects, mostWaiting, turns}
 use Rattle.paper.specs.Problems.{kindOf, codeOf}
+use Rattle.paper.specs.Invocations.{noInvocation}
 use Rattle.paper.specs.Dialogues.{Place, noReject}
-use Rattle.paper.specs.Layout.{invocationOctets, waitingRejectOctets, placeOctets, invocationBy, invocationsAt, rejectBy, rejectsAt, placeBy}
+use Rattle.paper.specs.Layout.{invocationMark, rejectMark, placeFields, placeOctets, placeSize, stateAt, serviceAt, peerLengthAt, peerAt, waitingLengthAt, countAt, firstInvocation, firstReject, waitingStart, tableFields, invocationBy, rejectBy, placeBy}
 use Rattle.table_laws.specs.Zeros.{pad-length, pad-of, pad-rest}
-use Rattle.table_laws.specs.Fine.{Octets, FineInvocation, FineInvocations, FineRejects, FineControl, Storable}
+use Rattle.table_laws.specs.Fine.{Octets, FineInvocation, FineRejects, FineControl}
 use Rattle.table_laws.specs.Kept.{same-invocation, same-reject, layer-small}
 
--- ---- what a store asks
--- a reject's problem goes into seven bits
+-- ---- a reject's ID goes into nine bits, its problem into seven
 abbrev pub SmallReject : Reject → Type 0
-SmallReject r = (kindOf (r .problem) < 16) × (codeOf (r .problem) < 8)
+SmallReject r = (r .id < 512) × (kindOf (r .problem) < 16) × (codeOf (r .problem) < 8)
 
 pub rejects-small : (n : ℕ) (l : List Reject) → FineRejects n l → (i : ℕ) → i < length l → SmallReject (getD l i noReject)
 rejects-small n l f i h = go (ltb i n) refl
   where
     go : (b : Bool) → ltb i n ≡ b → SmallReject (getD l i noReject)
     go true q =
-        let w = layer-small (kindOf (getD l i noReject .problem)) (codeOf (getD l i noReject .problem)) (f .each i (ltb-true i n q) h .sender) in
-        (omega (arith, w .0), omega (arith, w .1))
-    go false q = subst SmallReject (sym (f .rest i (ltb-false i n q) h)) (omega arith, omega arith)
+        let r = f .each i (ltb-true i n q) h in
+        let w = layer-small (kindOf (getD l i noReject .problem)) (codeOf (getD l i noReject .problem)) (r .sender) in
+        (omega (arith, r .id), omega (arith, w .0), omega (arith, w .1))
+    go false q = subst SmallReject (sym (f .rest i (ltb-false i n q) h)) (omega arith, omega arith, omega arith)
 
-pub fine-storable : (c : Control) → FineControl c → Storable c
-fine-storable c f = record {
-  four = f .four;
-  eight = f .eight;
-  invocations = λ i h. let v = f .invocations .each i (omega (arith, f .eight)) in (omega (arith, v .state), omega (arith, v .class), omega (arith, v .shown));
-  eights = f .eights;
-  rejects = λ i h. let w = rejects-small (c .count) (c .rejects) (f .rejects) i (omega (arith, f .eights)) in (known i (omega (arith, f .eights)) (ltb i (c .count)) refl, w .0, w .1);
-}
-  where
-    known : (i : ℕ) → i < length (c .rejects) → (b : Bool) → ltb i (c .count) ≡ b → getD (c .rejects) i noReject .id < 512
-    known i h true q = omega (arith, f .rejects .each i (ltb-true i (c .count) q) h .id)
-    known i h false q = omega (arith, ap (λ (r : Reject). r .id) (f .rejects .rest i (ltb-false i (c .count) q) h))
+-- ---- THE FIELDS' WIDTHS
+place-sized : (x : Place) → FineControl (x .control) → Sized placeFields x
+place-sized x f =
+    let i : length (x .control .invocations) ≡ mostInvocations = f .eight in
+    let r : length (x .control .rejects) ≡ mostRejects = f .eights in
+    (refl, (refl, (refl, (refl, (f .four, (refl, (refl,
+    (omega (arith, i, pairs-length (λ v. v .id) invocationMark invocationBy (x .control .invocations)),
+    (omega (arith, r, pairs-length (λ v. v .id % 256) rejectMark rejectBy (x .control .rejects)),
+    (pad-length mostWaiting (x .waiting), tt))))))))))
 
--- ---- the octets of a control record, with the length of the waiting octets among them: the first 44 of its place
+pub placeOctets-length : (x : Place) → FineControl (x .control) → length (placeOctets x) ≡ placeSize
+placeOctets-length x f = laid-length placeFields x (place-sized x f)
+
+-- all but the last: a control record, and how many octets wait
+abbrev beforeWaiting : Place → List ℕ
+beforeWaiting x = laidOut (take 9 placeFields) x
+
 abbrev pub controlOctets : Control → ℕ → List ℕ
-controlOctets c n =
-    three (c .turn)
-    (c .state ∷ c .service ∷ c .peerlen
-    ∷ (c .peer ++ (n ∷ c .count ∷ (invocationOctets (c .invocations) ++ waitingRejectOctets (c .rejects)))))
+controlOctets c n = beforeWaiting (record { control = c; waiting = replicate n 0 })
 
-invocationOctets-length : (l : List Invocation) → length (invocationOctets l) ≡ 2 * length l
-invocationOctets-length [] = refl
-invocationOctets-length (v ∷ l) = omega (arith, invocationOctets-length l)
+-- where the waiting octets of place p begin in the table
+abbrev pub waitingFrom : ℕ → ℕ
+waitingFrom p = offset tableFields 3 + waitingStart + p * placeSize
 
-rejectOctets-length : (l : List Reject) → length (waitingRejectOctets l) ≡ 2 * length l
-rejectOctets-length [] = refl
-rejectOctets-length (r ∷ l) = omega (arith, rejectOctets-length l)
-
-pub controlOctets-length : (c : Control) (n : ℕ) → Storable c → length (controlOctets c n) ≡ 44
+pub controlOctets-length : (c : Control) (n : ℕ) → FineControl c → length (controlOctets c n) ≡ waitingStart
 controlOctets-length c n f =
-    simp length-append (omega (arith, invocationOctets-length (c .invocations), rejectOctets-length (c .rejects), f .four, f .eight, f .eights))
+    let x : Place = record { control = c; waiting = replicate n 0 } in
+    laid-length (take 9 placeFields) x (sized-take placeFields x (place-sized x f) 9)
 
-pub place-split : (x : Place) → placeOctets x ≡ controlOctets (x .control) (length (x .waiting)) ++ pad 240 (x .waiting)
-place-split x = simp append-assoc
-
-pub placeOctets-length : (x : Place) → Storable (x .control) → length (placeOctets x) ≡ 284
-placeOctets-length x f =
-    ap length (place-split x)
-    ∙ length-append (controlOctets (x .control) (length (x .waiting))) (pad 240 (x .waiting))
-    ∙ (omega (arith, controlOctets-length (x .control) (length (x .waiting)) f, pad-length 240 (x .waiting)))
+pub place-split : (x : Place) → placeOctets x ≡ controlOctets (x .control) (length (x .waiting)) ++ pad mostWaiting (x .waiting)
+place-split x =
+    let n : length {A = ℕ} (replicate (length (x .waiting)) 0) ≡ length (x .waiting) = length-replicate (length (x .waiting)) 0 in
+    let q : controlOctets (x .control) (length (x .waiting)) ≡ beforeWaiting x = rw n in
+    laid-split placeFields x 9 ∙ ap (λ (l : List ℕ). l ++ pad mostWaiting (x .waiting)) (sym q)
 
 -- ---- FROM OCTETS
-invocations-forth : (n a : ℕ) (s : List ℕ) → a + 2 * n ≤ length s → invocationOctets (invocationsAt n a s) ++ drop (a + 2 * n) s ≡ drop a s
-invocations-forth zero a s h = ap (λ (k : ℕ). drop k s) (add-zero a)
-invocations-forth (suc n) a s h =
-    let o : ℕ = getD s (suc a) 0 in
-    let e : o % 8 + o / 8 % 8 * 8 + o / 64 * 64 ≡ o = omega arith in
-    let k : a + 2 * suc n ≡ suc (suc a) + 2 * n = omega arith in
-    ap (λ (m : ℕ). getD s a 0 ∷ m ∷ (invocationOctets (invocationsAt n (suc (suc a)) s) ++ drop (a + 2 * suc n) s)) e
-    ∙ ap (λ (m : ℕ). getD s a 0 ∷ o ∷ (invocationOctets (invocationsAt n (suc (suc a)) s) ++ drop m s)) k
-    ∙ ap (λ (r : List ℕ). getD s a 0 ∷ o ∷ r) (invocations-forth n (suc (suc a)) s (omega arith))
-    ∙ sym (drop-cons s a 0 (omega arith) ∙ ap (λ (r : List ℕ). getD s a 0 ∷ r) (drop-cons s (suc a) 0 (omega arith)))
-
 parts-of : (o : ℕ) → o % 8 + o / 8 % 16 * 8 + o / 128 * 128 ≡ o
 parts-of o = let w : o / 128 ≡ o / 8 / 16 = sym (div-div-eq-div-mul o 8 16) in omega (arith, w)
 
-rejects-forth : (n a : ℕ) (s : List ℕ) → Octets s → a + 2 * n ≤ length s → waitingRejectOctets (rejectsAt n a s) ++ drop (a + 2 * n) s ≡ drop a s
-rejects-forth zero a s h g = ap (λ (k : ℕ). drop k s) (add-zero a)
-rejects-forth (suc n) a s h g =
-    let i : ℕ = getD s a 0 in
-    let o : ℕ = getD s (suc a) 0 in
+reject-forth : (i o : ℕ) → i < 256 → (rejectBy i o .id % 256 ≡ i) × (rejectMark (rejectBy i o) ≡ o)
+reject-forth i o h =
     let r : Reject = rejectBy i o in
-    let d : r .id % 256 ≡ i = omega (arith, h a) in
     let x : codeOf (r .problem) ≡ o % 8 = omega arith in
     let y : kindOf (r .problem) ≡ o / 8 % 16 = omega arith in
-    let z : r .id / 256 ≡ o / 128 = omega (arith, h a) in
-    let e : codeOf (r .problem) + kindOf (r .problem) * 8 + r .id / 256 * 128 ≡ o =
-    rw (x, y, z) (parts-of o) in
-    let k : a + 2 * suc n ≡ suc (suc a) + 2 * n = omega arith in
-    ap (λ (m : ℕ). m ∷ (codeOf (r .problem) + kindOf (r .problem) * 8 + r .id / 256 * 128) ∷ (waitingRejectOctets (rejectsAt n (suc (suc a)) s) ++ drop (a + 2 * suc n) s)) d
-    ∙ ap (λ (m : ℕ). i ∷ m ∷ (waitingRejectOctets (rejectsAt n (suc (suc a)) s) ++ drop (a + 2 * suc n) s)) e
-    ∙ ap (λ (m : ℕ). i ∷ o ∷ (waitingRejectOctets (rejectsAt n (suc (suc a)) s) ++ drop m s)) k
-    ∙ ap (λ (l : List ℕ). i ∷ o ∷ l) (rejects-forth n (suc (suc a)) s h (omega arith))
-    ∙ sym (drop-cons s a 0 (omega arith) ∙ ap (λ (l : List ℕ). i ∷ l) (drop-cons s (suc a) 0 (omega arith)))
+    let z : r .id / 256 ≡ o / 128 = omega arith in
+    (omega arith, rw (x, y, z) (parts-of o))
 
-module _ (s : List ℕ) (e : length s ≡ 284) (h : Octets s) where
-  pub slot-turn : placeBy s .control .turn < 16777216
+module _ (s : List ℕ) (e : length s ≡ placeSize) (h : Octets s) where
+  pub slot-turn : placeBy s .control .turn < turns
   unfolding placeBy
   slot-turn = omega (arith, h 0, h 1, h 2)
 
-  module _ (k : getD s 10 0 ≤ 240) where
-    pub slot-waits : length (placeBy s .waiting) ≡ getD s 10 0
+  module _ (k : getD s waitingLengthAt 0 ≤ mostWaiting) where
+    pub slot-waits : length (placeBy s .waiting) ≡ getD s waitingLengthAt 0
     unfolding placeBy
-    slot-waits = length-take-le (getD s 10 0) (drop 44 s) (simp length-drop (omega arith))
+    slot-waits = length-take-le (getD s waitingLengthAt 0) (drop waitingStart s) (simp length-drop (omega arith))
 
     -- the octets are had back
-    pub slot-back : zeros (drop (44 + getD s 10 0) s) ≡ true → placeOctets (placeBy s) ≡ s
+    pub slot-back : zeros (drop (waitingStart + getD s waitingLengthAt 0) s) ≡ true → placeOctets (placeBy s) ≡ s
     unfolding placeBy
     slot-back z =
-        let w : List ℕ = take (getD s 10 0) (drop 44 s) in
-        let t : ℕ = getD s 0 0 * 65536 + getD s 1 0 * 256 + getD s 2 0 in
+        let t : ℕ = placeBy s .control .turn in
         let a : t / 65536 % 256 ≡ getD s 0 0 = omega (arith, h 0, h 1, h 2) in
         let b : t / 256 % 256 ≡ getD s 1 0 = omega (arith, h 0, h 1, h 2) in
         let c : t % 256 ≡ getD s 2 0 = omega (arith, h 0, h 1, h 2) in
-        let p : pad 240 w ≡ drop 44 s =
-        pad-of 240 (getD s 10 0) (drop 44 s) (simp length-drop (omega arith)) (ap zeros (drop-drop (getD s 10 0) 44 s) ∙ z) in
-        ap (λ (l : List ℕ). head (t / 65536 % 256) (t / 256 % 256) (t % 256) (length w) (invocationOctets (invocationsAt 8 12 s) ++ (waitingRejectOctets (rejectsAt 8 28 s) ++ l))) p
-        ∙ ap (λ (l : List ℕ). head (t / 65536 % 256) (t / 256 % 256) (t % 256) (length w) (invocationOctets (invocationsAt 8 12 s) ++ l)) (rejects-forth 8 28 s h (omega arith))
-        ∙ ap (λ (l : List ℕ). head (t / 65536 % 256) (t / 256 % 256) (t % 256) (length w) l) (invocations-forth 8 12 s (omega arith))
-        ∙ ap (λ (n : ℕ). head n (t / 256 % 256) (t % 256) (length w) (drop 12 s)) a
-        ∙ ap (λ (n : ℕ). head (getD s 0 0) n (t % 256) (length w) (drop 12 s)) b
-        ∙ ap (λ (n : ℕ). head (getD s 0 0) (getD s 1 0) n (length w) (drop 12 s)) c
-        ∙ ap (λ (n : ℕ). head (getD s 0 0) (getD s 1 0) (getD s 2 0) n (drop 12 s)) slot-waits
-        ∙ span-drop 12 0 s (omega arith)
-      where
-        head : ℕ → ℕ → ℕ → ℕ → List ℕ → List ℕ
-        head x y z n l = x ∷ y ∷ z ∷ (span 7 3 s ++ (n ∷ getD s 11 0 ∷ l))
+        laid-from placeFields (placeBy s) 0 s
+        (rw (a, b, c) (span-part 3 0 s (omega arith)),
+        (span-part 1 stateAt s (omega arith),
+        (span-part 1 serviceAt s (omega arith),
+        (span-part 1 peerLengthAt s (omega arith),
+        (span-part 4 peerAt s (omega arith),
+        (ap (λ (n : ℕ). n ∷ []) slot-waits ∙ span-part 1 waitingLengthAt s (omega arith),
+        (span-part 1 countAt s (omega arith),
+        (pairs-from (λ v. v .id) invocationMark invocationBy mostInvocations firstInvocation s (λ i. (refl, omega arith)) (omega arith),
+        (pairs-from (λ r. r .id % 256) rejectMark rejectBy mostRejects firstReject s (λ i. reject-forth (getD s i 0) (getD s (suc i) 0) (h i)) (omega arith),
+        (pad-of mostWaiting (getD s waitingLengthAt 0) (drop waitingStart s) (simp length-drop (omega arith)) (ap zeros (drop-drop (getD s waitingLengthAt 0) waitingStart s) ∙ z)
+        ∙ sym (take-all mostWaiting (drop waitingStart s) (simp length-drop (omega arith))),
+        omega arith))))))))))
 
 -- ---- FROM A RECORD
-invocation-back : (v : Invocation) → FineInvocation v → invocationBy (v .id) (v .state + v .class * 8 + v .shown * 64) ≡ v
+invocation-back : (v : Invocation) → FineInvocation v → invocationBy (v .id) (invocationMark v) ≡ v
 invocation-back v f =
-    same-invocation (invocationBy (v .id) (v .state + v .class * 8 + v .shown * 64)) v refl (omega (arith, f .state, f .class)) (omega (arith, f .state, f .class)) (omega (arith, f .state, f .class))
+    same-invocation (invocationBy (v .id) (invocationMark v)) v refl (omega (arith, f .state, f .class)) (omega (arith, f .state, f .class)) (omega (arith, f .state, f .class))
 
-invocations-past : (n a x : ℕ) (s : List ℕ) → invocationsAt n (suc a) (x ∷ s) ≡ invocationsAt n a s
-invocations-past zero a x s = refl
-invocations-past (suc n) a x s = ap (λ (l : List Invocation). invocationBy (getD s a 0) (getD s (suc a) 0) ∷ l) (invocations-past n (suc (suc a)) x s)
-
-invocations-back : (l : List Invocation) (r : List ℕ) → FineInvocations l → invocationsAt (length l) 0 (invocationOctets l ++ r) ≡ l
-invocations-back [] r f = refl
-invocations-back (v ∷ l) r f =
-    let o : ℕ = v .state + v .class * 8 + v .shown * 64 in
-    let s : List ℕ = invocationOctets l ++ r in
-    ap (λ (w : Invocation). w ∷ invocationsAt (length l) 2 (v .id ∷ o ∷ s)) (invocation-back v (f .each 0 (omega arith)))
-    ∙ ap (λ (m : List Invocation). v ∷ m) (invocations-past (length l) 1 (v .id) (o ∷ s) ∙ invocations-past (length l) 0 o s
-    ∙ invocations-back l r (record {
-      each = λ i h. f .each (suc i) (omega arith);
-      differ = λ i j h g m n. f .differ (suc i) (suc j) (omega arith) (omega arith) m n;
-    }))
-
-reject-back : (r : Reject) → SmallReject r → rejectBy (r .id % 256) (codeOf (r .problem) + kindOf (r .problem) * 8 + r .id / 256 * 128) ≡ r
-reject-back r f =
-    same-reject (rejectBy (r .id % 256) (codeOf (r .problem) + kindOf (r .problem) * 8 + r .id / 256 * 128)) r (omega (arith, f .0, f .1)) (omega (arith, f .0, f .1))
-
-rejects-past : (n a x : ℕ) (s : List ℕ) → rejectsAt n (suc a) (x ∷ s) ≡ rejectsAt n a s
-rejects-past zero a x s = refl
-rejects-past (suc n) a x s = ap (λ (l : List Reject). rejectBy (getD s a 0) (getD s (suc a) 0) ∷ l) (rejects-past n (suc (suc a)) x s)
-
-rejects-after : (n : ℕ) (l s : List ℕ) → rejectsAt n (length l) (l ++ s) ≡ rejectsAt n 0 s
-rejects-after n [] s = refl
-rejects-after n (x ∷ l) s = rejects-past n (length l) x (l ++ s) ∙ rejects-after n l s
-
-rejects-back : (l : List Reject) (r : List ℕ) → ((i : ℕ) → i < length l → SmallReject (getD l i noReject)) → rejectsAt (length l) 0 (waitingRejectOctets l ++ r) ≡ l
-rejects-back [] r f = refl
-rejects-back (x ∷ l) r f =
-    let i : ℕ = x .id % 256 in
-    let o : ℕ = codeOf (x .problem) + kindOf (x .problem) * 8 + x .id / 256 * 128 in
-    let s : List ℕ = waitingRejectOctets l ++ r in
-    ap (λ (w : Reject). w ∷ rejectsAt (length l) 2 (i ∷ o ∷ s)) (reject-back x (f 0 (omega arith)))
-    ∙ ap (λ (m : List Reject). x ∷ m) (rejects-past (length l) 1 i (o ∷ s) ∙ rejects-past (length l) 0 o s ∙ rejects-back l r (λ j h. f (suc j) (omega arith)))
+reject-back : (r : Reject) → SmallReject r → rejectBy (r .id % 256) (rejectMark r) ≡ r
+reject-back r f = same-reject (rejectBy (r .id % 256) (rejectMark r)) r (omega (arith, f .1, f .2)) (omega (arith, f .1, f .2))
 
 -- a list of four, one by one
 pub four-octets : (l : List ℕ) → length l ≡ 4 → span 4 0 l ≡ l
-four-octets l e = span-part 4 0 l (omega arith) ∙ ap (λ (n : ℕ). take n l) (sym e) ∙ take-length l
-
-abbrev peerOver : Place → List ℕ → Place
-peerOver x l = record {
-  control = record {
-    turn = x .control .turn;
-    state = x .control .state;
-    service = x .control .service;
-    peerlen = x .control .peerlen;
-    peer = l;
-    count = x .control .count;
-    invocations = x .control .invocations;
-    rejects = x .control .rejects;
-  };
-  waiting = x .waiting;
-}
+four-octets l e = span-part 4 0 l (omega arith) ∙ take-all 4 l (omega arith)
 
 module _ (x : Place) (f : FineControl (x .control)) where
-  -- what follows the first twelve octets
-  abbrev rest : List ℕ
-  rest = invocationOctets (x .control .invocations) ++ (waitingRejectOctets (x .control .rejects) ++ pad 240 (x .waiting))
+  sized : Sized placeFields x
+  sized = place-sized x f
 
-  rest-invocations : invocationsAt 8 0 rest ≡ x .control .invocations
-  rest-invocations =
-      ap (λ (n : ℕ). invocationsAt n 0 rest) (sym (f .eight))
-      ∙ invocations-back (x .control .invocations) (waitingRejectOctets (x .control .rejects) ++ pad 240 (x .waiting)) (f .invocations)
+  long : length (placeOctets x) ≡ placeSize
+  long = laid-length placeFields x sized
 
-  rest-rejects : rejectsAt 8 16 rest ≡ x .control .rejects
-  rest-rejects =
-      let n : 16 ≡ length (invocationOctets (x .control .invocations)) = omega (arith, invocationOctets-length (x .control .invocations), f .eight) in
-      ap (λ (k : ℕ). rejectsAt 8 k rest) n
-      ∙ rejects-after 8 (invocationOctets (x .control .invocations)) (waitingRejectOctets (x .control .rejects) ++ pad 240 (x .waiting))
-      ∙ ap (λ (k : ℕ). rejectsAt k 0 (waitingRejectOctets (x .control .rejects) ++ pad 240 (x .waiting))) (sym (f .eights))
-      ∙ rejects-back (x .control .rejects) (pad 240 (x .waiting)) (rejects-small (x .control .count) (x .control .rejects) (f .rejects))
+  -- an octet of what stands from field i on
+  octet-from : (i k : ℕ) → getD (placeOctets x) (offset placeFields i + k) 0 ≡ getD (laidOut (drop i placeFields) x) k 0
+  octet-from i k = sym (getD-drop (offset placeFields i) (placeOctets x) k 0) ∙ ap (λ (l : List ℕ). getD l k 0) (laid-drop placeFields x sized i)
 
-  rest-waiting : drop 32 rest ≡ pad 240 (x .waiting)
-  rest-waiting =
-      sym (drop-drop 16 16 rest)
-      ∙ ap (drop 16) (drop-at (invocationOctets (x .control .invocations)) (waitingRejectOctets (x .control .rejects) ++ pad 240 (x .waiting)) 16
-      (omega (arith, invocationOctets-length (x .control .invocations), f .eight)))
-      ∙ drop-at (waitingRejectOctets (x .control .rejects)) (pad 240 (x .waiting)) 16 (omega (arith, rejectOctets-length (x .control .rejects), f .eights))
+  pub length-at : getD (placeOctets x) waitingLengthAt 0 ≡ length (x .waiting)
+  length-at = octet-from 5 0
+
+  pub waiting-at : drop waitingStart (placeOctets x) ≡ pad mostWaiting (x .waiting)
+  waiting-at = laid-drop placeFields x sized 9
 
   -- the record is had back
-  pub place-back : length (x .waiting) ≤ 240 → placeBy (placeOctets x) ≡ x
+  pub place-back : length (x .waiting) ≤ mostWaiting → placeBy (placeOctets x) ≡ x
   unfolding placeBy
   place-back h =
-      subst (λ (l : List ℕ). placeBy (placeOctets (peerOver x l)) ≡ peerOver x l) (four-octets (x .control .peer) (f .four))
-      (let t : x .control .turn / 65536 % 256 * 65536 + x .control .turn / 256 % 256 * 256 + x .control .turn % 256 ≡ x .control .turn = omega (arith, f .turn) in
-      let v : invocationsAt 8 0 rest ≡ x .control .invocations = rest-invocations in
-      let r : rejectsAt 8 16 rest ≡ x .control .rejects = rest-rejects in
-      let w : take (length (x .waiting)) (drop 32 rest) ≡ x .waiting =
-      ap (take (length (x .waiting))) rest-waiting ∙ pad-rest 240 (x .waiting) h .0 in
-      rw (t, v, r, w))
-
-  pub length-at : getD (placeOctets x) 10 0 ≡ length (x .waiting)
-  length-at = subst (λ (l : List ℕ). getD (placeOctets (peerOver x l)) 10 0 ≡ length (x .waiting)) (four-octets (x .control .peer) (f .four)) refl
-
-  pub waiting-at : drop 44 (placeOctets x) ≡ pad 240 (x .waiting)
-  waiting-at =
-      ap (drop 44) (place-split x)
-      ∙ drop-at (controlOctets (x .control) (length (x .waiting))) (pad 240 (x .waiting)) 44 (controlOctets-length (x .control) (length (x .waiting)) (fine-storable (x .control) f))
+      let s : List ℕ = placeOctets x in
+      let t : x .control .turn / 65536 % 256 * 65536 + x .control .turn / 256 % 256 * 256 + x .control .turn % 256 ≡ x .control .turn = omega (arith, f .turn) in
+      let p : span 4 peerAt s ≡ x .control .peer = span-part 4 peerAt s (omega (arith, long)) ∙ field-at placeFields x sized 4 in
+      let k : getD s countAt 0 ≡ x .control .count = octet-from 6 0 in
+      let v : pairsAt invocationBy mostInvocations firstInvocation s ≡ x .control .invocations =
+      pairs-at (λ v. v .id) invocationMark invocationBy (x .control .invocations) noInvocation mostInvocations firstInvocation s (laidOut (drop 8 placeFields) x)
+      (λ i l. invocation-back (getD (x .control .invocations) i noInvocation) (f .invocations .each i l)) (f .eight) (omega (arith, long)) (laid-drop placeFields x sized 7) in
+      let r : pairsAt rejectBy mostRejects firstReject s ≡ x .control .rejects =
+      pairs-at (λ r. r .id % 256) rejectMark rejectBy (x .control .rejects) noReject mostRejects firstReject s (laidOut (drop 9 placeFields) x)
+      (λ i l. reject-back (getD (x .control .rejects) i noReject) (rejects-small (x .control .count) (x .control .rejects) (f .rejects) i l)) (f .eights) (omega (arith, long)) (laid-drop placeFields x sized 8) in
+      let w : take (getD s waitingLengthAt 0) (drop waitingStart s) ≡ x .waiting =
+      ap (λ (n : ℕ). take n (drop waitingStart s)) length-at ∙ ap (take (length (x .waiting))) waiting-at ∙ pad-rest mostWaiting (x .waiting) h .0 in
+      rw (t, p, k, v, r, w)

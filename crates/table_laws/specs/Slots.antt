@@ -17,9 +17,9 @@ use Rattle.paper.specs.Calls.{isFree}
 use Rattle.paper.specs.Layout.{placeOctets, placeBy, flag}
 use Rattle.paper.specs.Rules.{controlKept, hasPeer, waitingKept, freeKept, usedKept}
 use Rattle.table_laws.specs.Zeros.{zeros-are, zeros-of, pad-none, pad-rest}
-use Rattle.table_laws.specs.Fine.{Octets, FineInvocation, FineInvocations, FineRejects, Storable, FinePlace}
+use Rattle.table_laws.specs.Fine.{Octets, FineInvocation, FineInvocations, FineRejects, FinePlace}
 use Rattle.table_laws.specs.Kept.{control-is, control-kept}
-use Rattle.table_laws.specs.Octets.{fine-storable, slot-turn, slot-waits, slot-back, place-back, length-at, waiting-at}
+use Rattle.table_laws.specs.Octets.{slot-turn, slot-waits, slot-back, place-back, length-at, waiting-at}
 
 -- ---- free or used
 pub flag-free : (x : Place) → x .control .state ≡ 0 → flag x ≡ 1
@@ -75,11 +75,6 @@ empty-fine turn h = record {
   whole = refl;
   free = λ z. refl;
 }
-
--- a store of it, whatever its turn
-pub empty-storable : (turn : ℕ) → Storable (emptyPlace turn .control)
-empty-storable turn = let s = fine-storable (emptyPlace 0 .control) (empty-fine 0 (omega arith) .control) in
-    record { four = refl; eight = refl; invocations = s .invocations; eights = refl; rejects = s .rejects }
 
 -- ---- FROM OCTETS
 -- what a place that keeps the rules is

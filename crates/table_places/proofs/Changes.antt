@@ -5,19 +5,19 @@ use mathlib.Core.List.{List, [], _∷_, _++_}
 use native.Mathlib.Omega.{arith}
 use borrow.Rule.Slice.PartMut.{putMid}
 use lib.ListN.{length, set, take, drop, replicate, length-drop}
-use lib.Seq.{sets, length-take-le}
+use lib.Seq.{length-take-le}
 use Rattle.laws.specs.Parts.{over, put-over}
 use Rattle.paper.specs.declared.Control.{Control}
-use Rattle.paper.specs.Sizes.{nextTurn}
+use Rattle.paper.specs.Sizes.{placesInAll, mostWaiting, nextTurn}
 use Rattle.paper.specs.Dialogues.{Place, emptyPlace, withControl, freed}
 use Rattle.paper.specs.Calls.{placeAt, withPlace}
-use Rattle.paper.specs.Layout.{placeStart, placeOctets, placeBy, flag, encode, view, mapBit}
+use Rattle.paper.specs.Layout.{placeStart, placeOctets, placeSize, waitingStart, placeBy, flag, encode, view, mapBit}
 use Rattle.table_map.specs.Map.{withBit, withoutBit}
 use Rattle.table_laws.specs.Zeros.{pad-none}
-use Rattle.table_laws.specs.Octets.{controlOctets, placeOctets-length}
-use Rattle.table_laws.specs.Slots.{empty-storable}
+use Rattle.table_laws.specs.Octets.{waitingFrom, controlOctets, placeOctets-length}
+use Rattle.table_laws.specs.Slots.{empty-fine}
 use Rattle.table_laws.specs.Ready.{Ready}
-use Rattle.table_laws.specs.Stores.{stored-octets, begun-octets, passed-octets, sent-octets, freed-octets, bit-stays}
+use Rattle.table_laws.specs.Stores.{stored-octets, begun-octets, sent-octets, freed-octets, bit-stays}
 use Rattle.table_places.specs.Storing.{Storing, withWaiting}
 use Rattle.table_places.proofs.Laws.{lent, lent-place}
 
@@ -29,29 +29,21 @@ module _ (t : List ℕ) (p : ℕ) (c : Control) (s : Storing 0 t p c) where
       ∙ ap (λ (u : List ℕ). over u (placeStart p) (controlOctets c (length (placeAt (view t) p .waiting)))) (sym (s .ready .same))
       ∙ stored-octets (view t) (s .ready .fine) p (s .small) c (s .control) (s .state) (s .told)
 
-  pub octets-passed : (n m : ℕ) (l : List ℕ) → n ≡ length (placeAt (view t) p .waiting) → m ≡ n + length l → length (placeAt (view t) p .waiting) + length l ≤ 240
-      → over (sets t (placeStart p + (44 + n)) l) (placeStart p) (controlOctets c m) ≡ encode (withPlace (view t) p (withWaiting c (placeAt (view t) p .waiting ++ l)))
-  octets-passed n m l e q h =
-      ap (λ (k : ℕ). over (sets t (placeStart p + (44 + n)) l) (placeStart p) (controlOctets c k)) q
-      ∙ ap (λ (k : ℕ). over (sets t (placeStart p + (44 + k)) l) (placeStart p) (controlOctets c (k + length l))) e
-      ∙ ap (λ (u : List ℕ). over (sets u (placeStart p + (44 + length (placeAt (view t) p .waiting))) l) (placeStart p) (controlOctets c (length (placeAt (view t) p .waiting) + length l))) (sym (s .ready .same))
-      ∙ passed-octets (view t) (s .ready .fine) p (s .small) c (s .control) (s .state) (s .told) l h
-
   -- the waiting octets that were lent and zeroed
-  pub octets-sent : (last : List ℕ) → last ≡ replicate (length (take (92 + p * 284 + 240 - (92 + p * 284)) (drop (92 + p * 284) t))) 0
-      → over (putMid (92 + p * 284) (92 + p * 284 + 240 - (92 + p * 284)) t last) (placeStart p) (controlOctets c 0) ≡ encode (withPlace (view t) p (withWaiting c []))
+  pub octets-sent : (last : List ℕ) → last ≡ replicate (length (take (waitingFrom p + mostWaiting - (waitingFrom p)) (drop (waitingFrom p) t))) 0
+      → over (putMid (waitingFrom p) (waitingFrom p + mostWaiting - (waitingFrom p)) t last) (placeStart p) (controlOctets c 0) ≡ encode (withPlace (view t) p (withWaiting c []))
   octets-sent last e =
-      let k : 92 + p * 284 + 240 - (92 + p * 284) ≡ 240 = omega arith in
-      let j : 92 + p * 284 ≡ placeStart p + 44 = omega arith in
-      let q : length (take (92 + p * 284 + 240 - (92 + p * 284)) (drop (92 + p * 284) t)) ≡ 240 =
-      ap (λ (n : ℕ). length (take n (drop (92 + p * 284) t))) k
-      ∙ length-take-le 240 (drop (92 + p * 284) t) (simp length-drop (omega (arith, s .ready .long, s .small))) in
-      let r : last ≡ replicate 240 0 = e ∙ ap (λ (n : ℕ). replicate n 0) q in
+      let k : waitingFrom p + mostWaiting - (waitingFrom p) ≡ mostWaiting = omega arith in
+      let j : waitingFrom p ≡ placeStart p + waitingStart = omega arith in
+      let q : length (take (waitingFrom p + mostWaiting - (waitingFrom p)) (drop (waitingFrom p) t)) ≡ mostWaiting =
+      ap (λ (n : ℕ). length (take n (drop (waitingFrom p) t))) k
+      ∙ length-take-le mostWaiting (drop (waitingFrom p) t) (simp length-drop (omega (arith, s .ready .long, s .small))) in
+      let r : last ≡ replicate mostWaiting 0 = e ∙ ap (λ (n : ℕ). replicate n 0) q in
       ap (λ (u : List ℕ). over u (placeStart p) (controlOctets c 0))
-      (ap (putMid (92 + p * 284) (92 + p * 284 + 240 - (92 + p * 284)) t) r
-      ∙ put-over (92 + p * 284) (92 + p * 284 + 240 - (92 + p * 284)) t (replicate 240 0) (sym k)
-      ∙ ap (λ (n : ℕ). over t n (replicate 240 0)) j
-      ∙ ap (λ (u : List ℕ). over u (placeStart p + 44) (replicate 240 0)) (sym (s .ready .same)))
+      (ap (putMid (waitingFrom p) (waitingFrom p + mostWaiting - (waitingFrom p)) t) r
+      ∙ put-over (waitingFrom p) (waitingFrom p + mostWaiting - (waitingFrom p)) t (replicate mostWaiting 0) (sym k)
+      ∙ ap (λ (n : ℕ). over t n (replicate mostWaiting 0)) j
+      ∙ ap (λ (u : List ℕ). over u (placeStart p + waitingStart) (replicate mostWaiting 0)) (sym (s .ready .same)))
       ∙ sent-octets (view t) (s .ready .fine) p (s .small) c (s .control) (s .state) (s .told)
 
 module _ (t : List ℕ) (p : ℕ) (c : Control) (s : Storing 1 t p c) where
@@ -65,23 +57,23 @@ module _ (t : List ℕ) (p : ℕ) (c : Control) (s : Storing 1 t p c) where
   place-begun = ap (λ (u : List ℕ). withoutBit u p) put-same ∙ begun-octets (view t) (s .ready .fine) p (s .small) c (s .control) (s .state) (s .told)
 
 -- the octets of a place that was blanked
-pub blanked : (n : ℕ) → set (set (set (replicate 284 0) 0 (n / 65536 % 256)) 1 (n / 256 % 256)) 2 (n % 256) ≡ placeOctets (emptyPlace n)
-blanked n = ap (λ (l : List ℕ). n / 65536 % 256 ∷ n / 256 % 256 ∷ n % 256 ∷ (replicate 41 0 ++ l)) (sym (pad-none 240))
+pub blanked : (n : ℕ) → set (set (set (replicate placeSize 0) 0 (n / 65536 % 256)) 1 (n / 256 % 256)) 2 (n % 256) ≡ placeOctets (emptyPlace n)
+blanked n = ap (λ (l : List ℕ). n / 65536 % 256 ∷ n / 256 % 256 ∷ n % 256 ∷ (replicate (waitingStart - 3) 0 ++ l)) (sym (pad-none mostWaiting))
 
-module _ (t last : List ℕ) (p : ℕ) (r : Ready t) (h : p < 128) (e : last ≡ placeOctets (freed (placeBy (lent t p)))) where
-  pub lent-freed : putMid (48 + p * 284) (48 + p * 284 + 284 - (48 + p * 284)) t last ≡ over (encode (view t)) (placeStart p) (placeOctets (freed (placeAt (view t) p)))
+module _ (t last : List ℕ) (p : ℕ) (r : Ready t) (h : p < placesInAll) (e : last ≡ placeOctets (freed (placeBy (lent t p)))) where
+  pub lent-freed : putMid (placeStart p) (placeStart p + placeSize - (placeStart p)) t last ≡ over (encode (view t)) (placeStart p) (placeOctets (freed (placeAt (view t) p)))
   lent-freed =
       let x : Place = freed (placeAt (view t) p) in
-      let n : 48 + p * 284 + 284 - (48 + p * 284) ≡ 284 = omega arith in
+      let n : placeStart p + placeSize - (placeStart p) ≡ placeSize = omega arith in
       let q : last ≡ placeOctets x = e ∙ ap (λ (y : Place). placeOctets (freed y)) (lent-place t p h) in
-      let l : length (placeOctets x) ≡ 284 = placeOctets-length x (empty-storable (nextTurn (placeAt (view t) p .control .turn))) in
-      ap (putMid (48 + p * 284) (48 + p * 284 + 284 - (48 + p * 284)) t) q
-      ∙ put-over (48 + p * 284) (48 + p * 284 + 284 - (48 + p * 284)) t (placeOctets x) (l ∙ sym n)
+      let l : length (placeOctets x) ≡ placeSize = placeOctets-length x (empty-fine (nextTurn (placeAt (view t) p .control .turn)) (omega arith) .control) in
+      ap (putMid (placeStart p) (placeStart p + placeSize - (placeStart p)) t) q
+      ∙ put-over (placeStart p) (placeStart p + placeSize - (placeStart p)) t (placeOctets x) (l ∙ sym n)
       ∙ ap (λ (u : List ℕ). over u (placeStart p) (placeOctets x)) (sym (r .same))
 
   module _ (u : flag (placeAt (view t) p) ≡ 0) where
-    pub free-bit : mapBit (putMid (48 + p * 284) (48 + p * 284 + 284 - (48 + p * 284)) t last) p ≡ 0
+    pub free-bit : mapBit (putMid (placeStart p) (placeStart p + placeSize - (placeStart p)) t last) p ≡ 0
     free-bit = ap (λ (v : List ℕ). mapBit v p) lent-freed ∙ bit-stays (view t) (r .fine) p h (placeOctets (freed (placeAt (view t) p))) ∙ u
 
-    pub place-freed : withBit (putMid (48 + p * 284) (48 + p * 284 + 284 - (48 + p * 284)) t last) p ≡ encode (withPlace (view t) p (freed (placeAt (view t) p)))
+    pub place-freed : withBit (putMid (placeStart p) (placeStart p + placeSize - (placeStart p)) t last) p ≡ encode (withPlace (view t) p (freed (placeAt (view t) p)))
     place-freed = ap (λ (v : List ℕ). withBit v p) lent-freed ∙ freed-octets (view t) (r .fine) p h u

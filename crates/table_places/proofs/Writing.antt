@@ -1,99 +1,77 @@
 -- The octets that the code makes are those of the control record. Assumes nothing.
-use Prim.Native.Nat.{ℕ, suc, _+_, _*_, _-_, _/_, _%_, _<_}
+use Prim.Native.Nat.{ℕ, suc, _+_, _*_, _/_, _%_, _<_}
 use mathlib.Core.Path.{_≡_, refl, sym, ap, _∙_}
-use mathlib.Core.List.{List, [], _∷_, _++_, append-assoc}
+use mathlib.Core.List.{List, [], _∷_, _++_}
 use native.Mathlib.Omega.{arith}
-use lib.ListN.{length, getD, take, length-append}
-use native.Mathlib.Numerals.{add-one}
-use lib.Seq.{sets, length-take-le, take-suc, take-length}
-use Rattle.laws.specs.Runs.{join}
+use lib.ListN.{length, getD, take, drop, replicate, length-replicate}
+use lib.Seq.{sets}
+use Rattle.laws.specs.Lists.{tab-all}
+use Rattle.laws.specs.Runs.{Wrote, wrote-more}
 use Rattle.laws.specs.Parts.{over}
+use Rattle.laws.specs.Fields.{laidOut, laid-split, pairs}
 use Rattle.paper.specs.declared.Invocation.{Invocation}
 use Rattle.paper.specs.declared.Reject.{Reject}
 use Rattle.paper.specs.declared.Control.{Control}
-use Rattle.paper.specs.Sizes.{three}
+use Rattle.paper.specs.Sizes.{placesInAll, mostInvocations, mostRejects}
 use Rattle.paper.specs.Problems.{kindOf, codeOf}
 use Rattle.paper.specs.Invocations.{noInvocation}
-use Rattle.paper.specs.Dialogues.{noReject}
-use Rattle.paper.specs.Layout.{placeStart, invocationOctets, waitingRejectOctets}
-use Rattle.table_laws.specs.Fine.{Storable}
-use Rattle.table_laws.specs.Octets.{controlOctets, controlOctets-length, four-octets}
+use Rattle.paper.specs.Dialogues.{Place, noReject}
+use Rattle.paper.specs.Layout.{invocationMark, invocationOctets, rejectMark, waitingRejectOctets, placeFields, placeStart, firstInvocation, firstReject, tableSize}
+use Rattle.table_laws.specs.Fine.{FineInvocation, FineControl}
+use Rattle.table_laws.specs.Octets.{SmallReject, rejects-small, controlOctets, controlOctets-length, four-octets}
 use Rattle.table_laws.specs.Stores.{sets-over}
-use Rattle.table_places.specs.Made.{headOctets, pairs, invocationID, invocationMark, rejectID, rejectMark}
+use Rattle.table_places.specs.Made.{headWith, headOctets, madeInvocation, invocationPairs, madeReject, rejectPairs}
 
--- ---- pairs of octets, one pair more
-module _ {A : Type 0} (f g : A → ℕ) where
-  pairs-length : (l : List A) → length (pairs f g l) ≡ length l * 2
-  pairs-length [] = refl
-  pairs-length (x ∷ l) = omega (arith, pairs-length l)
-
-  pairs-append : (l m : List A) → pairs f g (l ++ m) ≡ pairs f g l ++ pairs f g m
-  pairs-append [] m = refl
-  pairs-append (x ∷ l) m = ap (λ (r : List ℕ). f x ∷ g x ∷ r) (pairs-append l m)
-
-  pub pairs-more : (t m n : List ℕ) (at : ℕ) (l : List A) (d : A) (i a b : ℕ) → m ≡ sets t at (pairs f g (take i l)) → i < length l
-      → a ≡ f (getD l i d) → b ≡ g (getD l i d) → n ≡ sets m (at + i * 2) (a ∷ b ∷ []) → n ≡ sets t at (pairs f g (take (i + 1) l))
-  pairs-more t m n at l d i a b e h ea eb en =
-      let v : A = getD l i d in
-      let k : i * 2 ≡ length (pairs f g (take i l)) = omega (arith, pairs-length (take i l), length-take-le i l (omega arith)) in
-      en
-      ∙ ap (λ (x : ℕ). sets m (at + i * 2) (x ∷ b ∷ [])) ea
-      ∙ ap (λ (x : ℕ). sets m (at + i * 2) (f v ∷ x ∷ [])) eb
-      ∙ ap (λ (u : List ℕ). sets u (at + i * 2) (f v ∷ g v ∷ [])) e
-      ∙ ap (λ (x : ℕ). sets (sets t at (pairs f g (take i l))) (at + x) (f v ∷ g v ∷ [])) k
-      ∙ join t at (pairs f g (take i l)) (f v ∷ g v ∷ [])
-      ∙ ap (sets t at) (sym (pairs-append (take i l) (v ∷ [])) ∙ ap (pairs f g) (sym (take-suc l i d h) ∙ ap (λ (x : ℕ). take x l) (sym (add-one i))))
-
-  pub pairs-all : (t m : List ℕ) (at : ℕ) (l : List A) (i : ℕ) → m ≡ sets t at (pairs f g (take i l)) → i ≡ length l → m ≡ sets t at (pairs f g l)
-  pairs-all t m at l i e q = e ∙ ap (λ (x : ℕ). sets t at (pairs f g (take x l))) q ∙ ap (λ (x : List A). sets t at (pairs f g x)) (take-length l)
+-- a pair, and those after it
+pub pair-then : {a b x y : ℕ} {r s : List ℕ} → a ≡ x → b ≡ y → r ≡ s → a ∷ b ∷ r ≡ x ∷ y ∷ s
+pair-then {a} {b} {x} {y} {r} {s} e f g = ap (λ (k : ℕ). k ∷ b ∷ r) e ∙ ap (λ (k : ℕ). x ∷ k ∷ r) f ∙ ap (λ (l : List ℕ). x ∷ y ∷ l) g
 
 -- ---- what goes into its bits is not changed by the remainder
-invocations-are : (l : List Invocation)
-    → ((j : ℕ) → j < length l → (getD l j noInvocation .state < 8) × (getD l j noInvocation .class < 8) × (getD l j noInvocation .shown < 4))
-    → pairs invocationID invocationMark l ≡ invocationOctets l
-invocations-are [] f = refl
-invocations-are (v ∷ l) f =
-    let b = f 0 (omega arith) in
-    let m : invocationMark v ≡ v .state + v .class * 8 + v .shown * 64 = omega (arith, b .0, b .1, b .2) in
-    ap (λ (k : ℕ). v .id ∷ k ∷ pairs invocationID invocationMark l) m
-    ∙ ap (λ (r : List ℕ). v .id ∷ (v .state + v .class * 8 + v .shown * 64) ∷ r) (invocations-are l (λ j h. f (suc j) (omega arith)))
+pairs-same : {A : Type 0} (f g h : A → ℕ) (d : A) (l : List A) → ((j : ℕ) → j < length l → g (getD l j d) ≡ h (getD l j d)) → pairs f g l ≡ pairs f h l
+pairs-same f g h d [] e = refl
+pairs-same f g h d (x ∷ l) e =
+    ap (λ (k : ℕ). f x ∷ k ∷ pairs f g l) (e 0 (omega arith)) ∙ ap (λ (r : List ℕ). f x ∷ h x ∷ r) (pairs-same f g h d l (λ j q. e (suc j) (omega arith)))
 
-rejects-are : (l : List Reject)
-    → ((j : ℕ) → j < length l → (getD l j noReject .id < 512) × (kindOf (getD l j noReject .problem) < 16) × (codeOf (getD l j noReject .problem) < 8))
-    → pairs rejectID rejectMark l ≡ waitingRejectOctets l
-rejects-are [] f = refl
-rejects-are (r ∷ l) f =
-    let b = f 0 (omega arith) in
+mark-made : (v : Invocation) → FineInvocation v → madeInvocation v ≡ invocationMark v
+mark-made v f = omega (arith, f .state, f .class, f .shown)
+
+reject-made : (r : Reject) → SmallReject r → madeReject r ≡ rejectMark r
+reject-made r b =
     let x : r .problem % 256 % 8 ≡ codeOf (r .problem) = omega (arith, b .2) in
     let y : r .problem / 256 % 16 ≡ kindOf (r .problem) = omega (arith, b .1) in
     let z : r .id / 256 % 2 ≡ r .id / 256 = omega (arith, b .0) in
-    let m : rejectMark r ≡ codeOf (r .problem) + kindOf (r .problem) * 8 + r .id / 256 * 128 = rw (x, y, z) in
-    ap (λ (k : ℕ). r .id % 256 ∷ k ∷ pairs rejectID rejectMark l) m
-    ∙ ap (λ (s : List ℕ). r .id % 256 ∷ (codeOf (r .problem) + kindOf (r .problem) * 8 + r .id / 256 * 128) ∷ s) (rejects-are l (λ j h. f (suc j) (omega arith)))
+    rw (x, y, z)
 
-module _ (c : Control) (n : ℕ) (g : Storable c) where
-  made-octets : headOctets c n ++ (pairs invocationID invocationMark (c .invocations) ++ pairs rejectID rejectMark (c .rejects)) ≡ controlOctets c n
+module _ (c : Control) (n : ℕ) (g : FineControl c) where
+  invocations-made : invocationPairs (c .invocations) ≡ invocationOctets (c .invocations)
+  invocations-made =
+      ap (pairs (λ v. v .id) madeInvocation) (tab-all mostInvocations (c .invocations) noInvocation (g .eight))
+      ∙ pairs-same (λ v. v .id) madeInvocation invocationMark noInvocation (c .invocations) (λ j h. mark-made (getD (c .invocations) j noInvocation) (g .invocations .each j h))
+
+  rejects-made : rejectPairs (c .rejects) ≡ waitingRejectOctets (c .rejects)
+  rejects-made =
+      ap (pairs (λ r. r .id % 256) madeReject) (tab-all mostRejects (c .rejects) noReject (g .eights))
+      ∙ pairs-same (λ r. r .id % 256) madeReject rejectMark noReject (c .rejects)
+      (λ j h. reject-made (getD (c .rejects) j noReject) (rejects-small (c .count) (c .rejects) (g .rejects) j h))
+
+  made-octets : headOctets c n ++ (invocationPairs (c .invocations) ++ rejectPairs (c .rejects)) ≡ controlOctets c n
   made-octets =
-      ap (λ (l : List ℕ). headOctets c n ++ (l ++ pairs rejectID rejectMark (c .rejects)))
-      (invocations-are (c .invocations) (λ j h. g .invocations j (omega (arith, g .eight))))
-      ∙ ap (λ (l : List ℕ). headOctets c n ++ (invocationOctets (c .invocations) ++ l))
-      (rejects-are (c .rejects) (λ j h. g .rejects j (omega (arith, g .eights))))
-      ∙ ap (λ (l : List ℕ). three (c .turn) (c .state ∷ c .service ∷ c .peerlen ∷ (l ++ (n ∷ c .count ∷ (invocationOctets (c .invocations) ++ waitingRejectOctets (c .rejects))))))
-      (four-octets (c .peer) (g .four))
+      let x : Place = record { control = c; waiting = replicate n 0 } in
+      ap (λ (l : List ℕ). headWith c l n ++ (invocationPairs (c .invocations) ++ rejectPairs (c .rejects))) (four-octets (c .peer) (g .four))
+      ∙ ap (λ (k : ℕ). headWith c (c .peer) k ++ (invocationPairs (c .invocations) ++ rejectPairs (c .rejects))) (sym (length-replicate n 0))
+      ∙ ap (λ (l : List ℕ). laidOut (take 7 placeFields) x ++ (l ++ rejectPairs (c .rejects))) invocations-made
+      ∙ ap (λ (l : List ℕ). laidOut (take 7 placeFields) x ++ (invocationOctets (c .invocations) ++ l)) rejects-made
+      ∙ sym (laid-split (take 9 placeFields) x 7)
 
   -- three runs, one after another
-  pub control-put : (t x : List ℕ) (p : ℕ) → p < 128 → length t ≡ 36400 → x ≡ headOctets c n
-      → sets (sets (sets t (48 + p * 284) x) (48 + p * 284 + 12) (pairs invocationID invocationMark (c .invocations))) (48 + p * 284 + 28) (pairs rejectID rejectMark (c .rejects))
-      ≡ over t (placeStart p) (controlOctets c n)
-  control-put t x p h e q =
-      let a : ℕ = 48 + p * 284 in
-      let H : List ℕ = headOctets c n in
-      let I : List ℕ = pairs invocationID invocationMark (c .invocations) in
-      let R : List ℕ = pairs rejectID rejectMark (c .rejects) in
-      let k : a + 28 ≡ a + length (H ++ I) = omega (arith, length-append H I, pairs-length invocationID invocationMark (c .invocations), g .eight) in
-      ap (λ (u : List ℕ). sets (sets (sets t a u) (a + 12) I) (a + 28) R) q
-      ∙ ap (λ (u : List ℕ). sets u (a + 28) R) (join t a H I)
-      ∙ ap (λ (i : ℕ). sets (sets t a (H ++ I)) i R) k
-      ∙ join t a (H ++ I) R
-      ∙ ap (sets t a) (append-assoc H I R ∙ made-octets)
-      ∙ sets-over t a (controlOctets c n) (omega (arith, controlOctets-length c n g))
+  pub control-put : (t u v w H I R : List ℕ) (p i j k : ℕ) → p < placesInAll → length t ≡ tableSize
+      → H ≡ headOctets c n → I ≡ invocationPairs (c .invocations) → R ≡ rejectPairs (c .rejects)
+      → Wrote t (placeStart p) H i u → Wrote u (placeStart p + firstInvocation) I j v → Wrote v (placeStart p + firstReject) R k w
+      → w ≡ over t (placeStart p) (controlOctets c n)
+  control-put t u v w H I R p i j k h e hH hI hR a b d =
+      let lH : length H ≡ firstInvocation = ap length hH in
+      let lI : length I ≡ 2 * mostInvocations = ap length hI in
+      let m : H ++ (I ++ R) ≡ controlOctets c n = rw (hH, hI, hR) made-octets in
+      wrote-more a (omega (arith, a .past, lH)) (wrote-more b (omega (arith, b .past, lI)) d) .holds
+      ∙ ap (λ (l : List ℕ). sets t (placeStart p) l) m
+      ∙ sets-over t (placeStart p) (controlOctets c n) (omega (arith, controlOctets-length c n g))

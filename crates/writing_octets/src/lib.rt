@@ -2,7 +2,7 @@
 ghost use mathlib.Core.Path.{_≡_};
 ghost use Prim.Native.Nat.{_+_, _-_, _<_, _≤_};
 ghost use mathlib.Core.List.{[], _∷_};
-ghost use lib.ListN.{length};
+ghost use lib.ListN.{length, replicate};
 ghost use Rattle.laws.specs.Runs.{Wrote};
 ghost use Rattle.paper.specs.Writing.{lengthOctets};
 ghost use Rattle.writing_octets.specs.Heads.{elementHead};
@@ -87,4 +87,15 @@ pub fn element_size(n: usize) -> usize
     ensures within { λ r. ⌜ (n + 2 ≤ r) × (r ≤ n + 4) ⌝ }
 {
     1 + length_size(n) + n
+}
+
+// All of a space made zero.
+pub fn clear(out: &mut [u8])
+    ensures { λ r. ⌜ now (out .exit) ≡ replicate (length (now (out .entry))) 0 ⌝ }
+{
+    let mut i = 0;
+    while i < out.len() {
+        out[i] = 0;
+        i += 1;
+    }
 }

@@ -73,7 +73,7 @@ begin-at-requires c κs =
     let turn-at = c .before .before .turn-at in
     let begun = c .before .begun in
     subst (Storing 1 (args .table .now) (lowest-place .result)) (sym (begun .ensures))
-    (open-storing (args .table .now) (args .service) (enter .ensures .inside (if1 .left)) (sym (enter .ensures .may (if1 .left)) ∙ if2 .taken) (lowest-place .result) (lowest-place .ensures .0) (turn-at .result))
+    (open-storing (args .table .now) (args .service) (enter .ensures .inside (if1 .left)) (sym (enter .ensures .may (if1 .left)) ∙ if2 .taken) (lowest-place .result) (lowest-place .ensures .0) (turn-at .result) (turn-at .ensures .1))
 
 same-length-2 : tie.Need-same-length-2
 same-length-2 c = search needs

@@ -108,7 +108,7 @@ put-invoke-requires c κs =
     let pass = c .before .pass in
     let x = placeAt (view (args .table .now)) (enter-at .result .place) in
     let i = invoke-in x (waiting-length .result) (sym (waiting-length .ensures .0)) (args .id) (args .linked) (args .class) (args .operation .now) (args .parameter .now) (sym (if2 .left) ∙ invoke-refusal .ensures x (sym (load .ensures)) (sym (waiting-length .ensures .0))) in
-    (record { storing = subst (Storing 0 (args .table .now) (enter-at .result .place)) (sym (pass .ensures ∙ ap (λ (k : Control). passed k (args .id) (args .class)) (load .ensures))) (passed-storing (enter-at .ensures .inside (if1 .left) .used) (args .id) (args .class) (i .0)); waits = waiting-length .ensures .0; room = i .2 }, pre)
+    (record { storing = subst (Storing 0 (args .table .now) (enter-at .result .place)) (sym (pass .ensures ∙ ap (λ (k : Control). passed k (args .id) (args .class)) (load .ensures))) (passed-storing (enter-at .ensures .inside (if1 .left) .used) (args .id) (args .class) (i .4) (i .3) (i .0)); waits = waiting-length .ensures .0; room = i .2 }, pre)
 
 done-requires : tie.Need-done-requires
 done-requires c κs = search needs

@@ -97,7 +97,7 @@ put-reject-requires c κs =
     let rejected-by = c .before .rejected-by in
     let x = placeAt (view (args .table .now)) (enter-at .result .place) in
     let i = reject-in x (waiting-length .result) (sym (waiting-length .ensures .0)) (args .id) (args .problem) (sym (if2 .left) ∙ reject-refusal .ensures x (sym (load .ensures)) (sym (waiting-length .ensures .0))) in
-    (record { storing = subst (Storing 0 (args .table .now) (enter-at .result .place)) (sym (rejected-by .ensures ∙ ap (λ (k : Control). rejectedBy k (args .id) (args .problem)) (load .ensures))) (rejected-storing (enter-at .ensures .inside (if1 .left) .used) (args .id) (args .problem)); waits = waiting-length .ensures .0; room = i .2 }, omega (arith, user-small (kindOf (args .problem)) (codeOf (args .problem)) (i .0)))
+    (record { storing = subst (Storing 0 (args .table .now) (enter-at .result .place)) (sym (rejected-by .ensures ∙ ap (λ (k : Control). rejectedBy k (args .id) (args .problem)) (load .ensures))) (rejected-storing (enter-at .ensures .inside (if1 .left) .used) (args .id) (args .problem) (i .1)); waits = waiting-length .ensures .0; room = i .2 }, omega (arith, user-small (kindOf (args .problem)) (codeOf (args .problem)) (i .0)))
 
 done-requires : tie.Need-done-requires
 done-requires c κs = search needs

@@ -25,7 +25,7 @@ shown-requires : tie.Need-shown-requires
 shown-requires c κs = search needs
 
 begin-at-requires : tie.Need-begin-at-requires
-begin-at-requires c κs = let p = c .before .before .before .before .before .before .before .before .before .before .before .before .before .before .before .before .before .pre in begun-storing _ _ _ (c .before .before .before .before .shown .result) _ _ _ _ _ (c .before .before .before .before .before .before .before .before .peer-of .ensures) (c .before .before .before .before .before .before .begun .ensures) (p .0) (p .2) (c .before .before .before .before .shown .ensures .control)
+begin-at-requires c κs = let p = c .before .before .before .before .before .before .before .before .before .before .before .before .before .before .before .before .before .pre in begun-storing _ _ _ (c .before .before .before .before .shown .result) _ _ _ _ _ (c .before .before .before .before .before .before .before .before .peer-of .ensures) (c .before .before .before .before .before .before .begun .ensures) (p .0) (p .1) (c .before .before .before .before .before .before .before .before .before .before .before .before .turn-at .ensures .1) (p .4) (p .2) (c .before .before .before .before .shown .ensures .control)
 
 cast-result : tie.Need-cast-result
 cast-result c = search needs

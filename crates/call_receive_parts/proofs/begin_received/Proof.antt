@@ -16,7 +16,7 @@ lowest-place-requires : tie.Need-lowest-place-requires
 lowest-place-requires c κs = search needs
 
 begin-at-requires : tie.Need-begin-at-requires
-begin-at-requires c κs = let p = c .before .before .before .before .before .before .before .before .before .before .before .pre in (lowest-standing _ _ _ (p .0) (sym (c .before .before .before .before .before .may-begin .ensures) ∙ c .before .before .before .before .if1 .taken) _ (c .before .before .lowest-place .ensures .0), p .0 .service, p .1, p .2)
+begin-at-requires c κs = let p = c .before .before .before .before .before .before .before .before .before .before .before .pre in (lowest-standing _ _ _ (p .0) (sym (c .before .before .before .before .before .may-begin .ensures) ∙ c .before .before .before .before .if1 .taken) _ (c .before .before .lowest-place .ensures .0), p .0 .service, p .1, p .2, p .4)
 
 same-length : tie.Need-same-length
 same-length c = search needs

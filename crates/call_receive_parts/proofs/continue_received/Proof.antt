@@ -16,7 +16,7 @@ shown-requires : tie.Need-shown-requires
 shown-requires c κs = search needs
 
 store-control-requires : tie.Need-store-control-requires
-store-control-requires c κs = let p = c .before .before .before .before .before .before .before .before .before .before .before .before .pre in continued-storing _ _ _ (c .before .before .before .before .shown .result) _ _ (c .before .before .before .before .before .before .before .load .ensures) _ (c .before .before .before .before .before .before .continued .ensures) (p .0) (p .1) (c .before .before .before .before .shown .ensures .control)
+store-control-requires c κs = let p = c .before .before .before .before .before .before .before .before .before .before .before .before .pre in continued-storing _ _ _ (c .before .before .before .before .shown .result) _ _ (c .before .before .before .before .before .before .before .load .ensures) _ (c .before .before .before .before .before .before .continued .ensures) (p .0) (p .3) (p .1) (c .before .before .before .before .shown .ensures .control)
 
 cast-result : tie.Need-cast-result
 cast-result c = search needs

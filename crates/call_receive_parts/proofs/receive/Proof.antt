@@ -18,7 +18,7 @@ returns c = let a = c .before .before .before .before .before .before .before .a
     receives-as (eq _ _ _ _ (omega arith) refl ∙ ap (received (view (a .t .now)) (a .service) (a .s .now)) (c .before .before .message-of .ensures .0)) (drop-receives _ _ _ (c .before .before .before .before .before .before .before .pre .0 .ready))
 
 sound-received-requires : tie.Need-sound-received-requires
-sound-received-requires c κs = let p = c .before .before .before .before .before .before .before .before .before .before .before .before .pre in (p .0, record { octets = λ i. omega (arith, c .before .before .before .before .before .before .before .before .before .before .shared-slice-known .given i); few = omega arith; lies = c .before .before .before .before .before .before .before .message-of .ensures .1 }, p .3, p .4)
+sound-received-requires c κs = let p = c .before .before .before .before .before .before .before .before .before .before .before .before .pre in (p .0, record { octets = λ i. omega (arith, c .before .before .before .before .before .before .before .before .before .before .shared-slice-known .given i); few = omega arith; lies = c .before .before .before .before .before .before .before .message-of .ensures .1 }, p .3, p .4, omega arith)
 
 same-length : tie.Need-same-length
 same-length c = search needs

@@ -23,7 +23,8 @@ returns c = let a = c .before .before .before .before .before .before .before .b
     receives-as (eq _ _ _ _ (omega arith) refl) (table-as (c .before .before .before .before .before .before .before .before .before .before .pre .0 .ready .same) (leaves-receives (c .before .before .uni-received .ensures (view (a .t .now)))))
 
 begin-received-requires : tie.Need-begin-received-requires
-begin-received-requires c κs = search needs
+begin-received-requires c κs = let p = c .before .before .before .before .before .before .before .before .before .before .before .pre in
+    (p .0, p .1, p .2, p .3, p .1 .lies .begins (p .4) (omega arith))
 
 same-length-2 : tie.Need-same-length-2
 same-length-2 c = search needs
@@ -49,7 +50,7 @@ number-at-requires c κs = let a = c .before .before .before .before .before .be
 to-dialogue-requires : tie.Need-to-dialogue-requires
 to-dialogue-requires c κs = let a = c .before .before .before .before .before .before .before .before .before .before .before .before .before .before .before .before .args in
     let k = assigned-is (view (a .t .now)) (a .service) (a .s .now) (a .m) (sym (c .before .before .before .before .before .before .assigned .ensures) ∙ c .before .before .before .before .before .if3 .taken) in
-    (owned-standing (a .t .now) (c .before .before .before .before .before .before .before .before .before .before .before .before .before .before .before .before .pre .0 .ready) (a .service) _ _ (c .before .before .before .number-at .ensures) (k .1), c .before .before .before .before .before .before .before .before .before .before .before .before .before .before .before .before .pre .1, c .before .before .before .before .before .before .before .before .before .before .before .before .before .before .before .before .pre .2, c .before .before .before .before .before .before .before .before .before .before .before .before .before .before .before .before .pre .3)
+    (owned-standing (a .t .now) (c .before .before .before .before .before .before .before .before .before .before .before .before .before .before .before .before .pre .0 .ready) (a .service) _ _ (c .before .before .before .number-at .ensures) (k .1), c .before .before .before .before .before .before .before .before .before .before .before .before .before .before .before .before .pre .1, c .before .before .before .before .before .before .before .before .before .before .before .before .before .before .before .before .pre .2, c .before .before .before .before .before .before .before .before .before .before .before .before .before .before .before .before .pre .3, c .before .before .before .before .before .before .before .before .before .before .before .before .before .before .before .before .pre .4)
 
 same-length-5 : tie.Need-same-length-5
 same-length-5 c = search needs

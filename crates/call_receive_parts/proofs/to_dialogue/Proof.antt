@@ -38,7 +38,8 @@ unfolding toDialogue
 returns-2 c = receives-as (eq _ _ _ _ (omega arith) (ne _ _ _ _ (λ h. omega arith) refl)) (drop-receives _ _ _ (c .before .before .before .before .before .before .before .before .before .pre .0 .ready))
 
 continue-received-requires : tie.Need-continue-received-requires
-continue-received-requires c κs = search needs
+continue-received-requires c κs = let p = c .before .before .before .before .before .before .before .before .before .before .before .pre in
+    (p .0, p .1, p .2, p .1 .lies .continues (p .4) (omega arith))
 
 same-length-5 : tie.Need-same-length-5
 same-length-5 c = search needs

@@ -1,4 +1,3 @@
-use Prim.Native.Nat.{_-_}
 use mathlib.Core.Path.{_∙_}
 use Rattle.table_places.proofs.Changes.{octets-sent}
 use borrow.Author.Needs.{needs}

@@ -1,22 +1,19 @@
-use Rattle.table_places.proofs.Laws.{state-is}
+use mathlib.Core.Path.{ap, _∙_}
+use Rattle.paper.specs.declared.Control.{Control}
+use Rattle.table_places.proofs.Laws.{control-is}
 use borrow.Author.Needs.{needs}
 use Rattle.table_places.proofs.state_at.Statement.{statement}
 use Rattle.table_places.proofs.state_at.Tie as tie
 
-mul-a : tie.Need-mul-a
-mul-a c = search needs
+slot-requires : tie.Need-slot-requires
+slot-requires c κs = search needs
 
-add-a : tie.Need-add-a
-add-a c = search needs
-
-add-result : tie.Need-add-result
-add-result c = search needs
-
-shared-slice-read-result : tie.Need-shared-slice-read-result
-shared-slice-read-result c = search needs
+state-requires : tie.Need-state-requires
+state-requires c κs = search needs
 
 returns : tie.Need-returns
-returns c = let s = c .before in state-is (s .args .t .now) (s .args .p) (s .pre .0)
+returns c = let s = c .before .before .before in
+    c .state .ensures ∙ ap (λ (k : Control). k .state) (control-is (s .args .t .now) (s .args .p) (s .pre .0) _ (c .before .slot .ensures .0))
 
 pub state-at-spec : {M : Type 1} → statement M
-state-at-spec = tie.close (tie.spec mul-a add-a add-result shared-slice-read-result returns)
+state-at-spec = tie.close (tie.spec slot-requires state-requires returns)

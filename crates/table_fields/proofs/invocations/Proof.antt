@@ -1,6 +1,6 @@
 use borrow.Author.Needs.{needs}
-use Rattle.table_places.proofs.invocations_of.Statement.{statement}
-use Rattle.table_places.proofs.invocations_of.Tie as tie
+use Rattle.table_fields.proofs.invocations.Statement.{statement}
+use Rattle.table_fields.proofs.invocations.Tie as tie
 
 invocation-at-requires : tie.Need-invocation-at-requires
 invocation-at-requires c κs = search needs
@@ -29,8 +29,8 @@ invocation-at-requires-8 c κs = search needs
 returns : tie.Need-returns
 returns c = cc
 
-pub invocations-of-spec : {M : Type 1} → statement M
-invocations-of-spec =
+pub invocations-spec : {M : Type 1} → statement M
+invocations-spec =
     tie.close
     (tie.spec
     invocation-at-requires

@@ -8,43 +8,97 @@ use lib.Dec.{eqb, ltb}
 use borrow.Author.Tests.{eqb-true, eqb-false, ltb-true, ltb-false}
 use lib.ListN.{length, getD, set, length-set, length-map}
 use lib.Seq.{getD-set-same, getD-set-other}
+use Rattle.laws.specs.If.{ifEq, by-eq, was-eq}
 use Rattle.paper.specs.declared.Invocation.{Invocation}
 use Rattle.paper.specs.declared.Reject.{Reject}
 use Rattle.paper.specs.declared.Control.{Control}
-use Rattle.paper.specs.Invocations.{noInvocation, slotOf, idleSlot, invocationOf, stateOf, withInvocations, withInvocation, inState, toState, toIdle, passed, notLastShown, allTransmitted, withReject, rejects}
-use Rattle.paper.specs.Dialogues.{noReject}
-use Rattle.table_laws.specs.Fine.{FineInvocation, FineInvocations, FineReject, FineControl}
-use Rattle.demand_kept.specs.Invocations.{idle-fine, same-id-fine, found-open, pass-fine, all-transmitted-fine}
+use Rattle.paper.specs.Invocations.{noInvocation, slotOf, idleSlot, invocationOf, stateOf, withInvocations, withInvocation, inState, toState, toIdle, passed, notLastShown, allTransmitted, withReject}
+use Rattle.paper.specs.Dialogues.{noReject, begun, withState, withoutRejects}
+use Rattle.paper.specs.Calls.{withPeer}
+use Rattle.paper.specs.Rules.{hasPeer}
+use Rattle.table_laws.specs.Fine.{FineInvocation, FineInvocations, FineReject, FineRejects, FinePeer, FineControl}
+use Rattle.table_laws.specs.Slots.{empty-fine}
+use Rattle.table_laws.specs.Invocations.{idle-fine, same-id-fine, found-open, pass-fine, all-transmitted-fine}
 
--- only the invocations changed
-pub invocations-fine : (c : Control) (l : List Invocation) → FineControl c → length l ≡ 8 → FineInvocations l → FineControl (withInvocations c l)
-invocations-fine c l f n g = record {
-  turn = f .turn;
-  state = f .state;
-  service = f .service;
-  four = f .four;
-  peer = record { some = f .peer .some; none = f .peer .none; most = f .peer .most; rest = f .peer .rest };
-  count = f .count;
-  eight = n;
-  invocations = g;
-  eights = f .eights;
-  rejects = f .rejects;
-}
+-- "1 to 4 octets in Received and Active and none in Open and Sent"
+pub peers : (hasPeer 1 ≡ false) × (hasPeer 2 ≡ false) × (hasPeer 3 ≡ true) × (hasPeer 4 ≡ true)
+unfolding hasPeer ifEq
+peers = (refl, refl, refl, refl)
 
+-- a Begin's and a Continue's new state has a peer where the one that they need has
+pub begin-peer : (state : ℕ) → _≡_ {A = ℕ} 0 (ifEq state 1 0 6) → hasPeer 2 ≡ hasPeer state
+begin-peer state e = peers .1 ∙ sym (ap hasPeer (was-eq _ _ _ _ e (λ z. omega arith) .0) ∙ peers .0)
+
+pub continue-peer : (state : ℕ) → _≡_ {A = ℕ} 0 (ifEq state 3 0 (ifEq state 4 0 6)) → hasPeer 4 ≡ hasPeer state
+continue-peer state e =
+    by-eq _ _ _ _ e (λ a z. peers .3 ∙ sym (ap hasPeer a ∙ peers .2)) (λ a z. sym (ap hasPeer (was-eq _ _ _ _ z (λ z. omega arith) .0)))
+
+-- A NEW DIALOGUE
+pub begun-fine : (turn state service peerlen : ℕ) (peer : List ℕ) → turn < 16777216 → state < 5 → service < 16 → length peer ≡ 4
+    → FinePeer state peerlen peer → FineControl (begun turn state service peerlen peer)
+begun-fine turn state service peerlen peer a b c d e =
+    let f = empty-fine 0 (omega arith) .control in
+    record {
+      turn = a;
+      state = b;
+      service = c;
+      four = d;
+      peer = e;
+      count = omega arith;
+      eight = refl;
+      invocations = f .invocations;
+      eights = refl;
+      rejects = f .rejects;
+    }
+
+-- ONE THAT GOES ON keeps its turn and service
 module _ (c : Control) (f : FineControl c) where
+  goes-on : {state peerlen count : ℕ} {peer : List ℕ} {l : List Invocation} {w : List Reject}
+      → state < 5 → length peer ≡ 4 → FinePeer state peerlen peer → count ≤ 8 → length l ≡ 8 → FineInvocations l → length w ≡ 8 → FineRejects count w
+      → FineControl (record { turn = c .turn; state = state; service = c .service; peerlen = peerlen; peer = peer; count = count; invocations = l; rejects = w })
+  goes-on a b d e g h i j = record {
+    turn = f .turn;
+    state = a;
+    service = f .service;
+    four = b;
+    peer = d;
+    count = e;
+    eight = g;
+    invocations = h;
+    eights = i;
+    rejects = j;
+  }
+
+  -- in another state with a peer as before; the peer's ID stored; the rejects sent
+  pub with-state-fine : (state : ℕ) → state < 5 → hasPeer state ≡ hasPeer (c .state) → FineControl (withState c state)
+  with-state-fine state h e =
+      let p = f .peer in
+      goes-on h (f .four) (record { some = λ z. p .some (sym e ∙ z); none = λ z. p .none (sym e ∙ z); most = p .most; rest = p .rest })
+      (f .count) (f .eight) (f .invocations) (f .eights) (f .rejects)
+
+  pub with-peer-fine : (n : ℕ) (l : List ℕ) → length l ≡ 4 → FinePeer 4 n l → FineControl (withPeer c n l)
+  with-peer-fine n l e p = goes-on (omega arith) e p (f .count) (f .eight) (f .invocations) (f .eights) (f .rejects)
+
+  pub without-rejects-fine : FineControl (withoutRejects c)
+  without-rejects-fine = goes-on (f .state) (f .four) (f .peer) (omega arith) (f .eight) (f .invocations) refl (empty-fine 0 (omega arith) .control .rejects)
+
+  -- only the invocations changed
+  pub invocations-fine : (l : List Invocation) → length l ≡ 8 → FineInvocations l → FineControl (withInvocations c l)
+  invocations-fine l n g = goes-on (f .state) (f .four) (f .peer) (f .count) n g (f .eights) (f .rejects)
+
   long : (i : ℕ) (v : Invocation) → length (set (c .invocations) i v) ≡ 8
   long i v = length-set (c .invocations) i v ∙ f .eight
 
   pub to-idle-fine : (id : ℕ) → FineControl (toIdle c id)
   unfolding toIdle
   to-idle-fine id =
-      invocations-fine c (set (c .invocations) (slotOf (c .invocations) id) noInvocation) f (long (slotOf (c .invocations) id) noInvocation)
+      invocations-fine (set (c .invocations) (slotOf (c .invocations) id) noInvocation) (long (slotOf (c .invocations) id) noInvocation)
       (idle-fine (c .invocations) (slotOf (c .invocations) id) (f .invocations))
 
   pub passed-fine : (id class : ℕ) → stateOf c id ≡ 0 → 1 ≤ class → class ≤ 4 → FineControl (passed c id class)
   unfolding passed
   passed-fine id class e a b =
-      invocations-fine c _ f (long (idleSlot (c .invocations)) (record { id = id; class = class; state = 1; shown = 0 }))
+      invocations-fine _ (long (idleSlot (c .invocations)) (record { id = id; class = class; state = 1; shown = 0 }))
       (pass-fine (c .invocations) id class (f .invocations) e a b)
 
   -- the slot of one that isn't in Idle
@@ -64,7 +118,7 @@ module _ (c : Control) (f : FineControl c) where
   unfolding invocationOf
   changed-fine id v n g e =
       let h : slotOf (c .invocations) id < length (c .invocations) = omega (arith, there id n, f .eight) in
-      invocations-fine c _ f (long (slotOf (c .invocations) id) v)
+      invocations-fine _ (long (slotOf (c .invocations) id) v)
       (same-id-fine (c .invocations) (slotOf (c .invocations) id) v (f .invocations) h (found-open (c .invocations) id h .0) g e)
 
   -- our invocation of an ID, in use
@@ -87,22 +141,13 @@ module _ (c : Control) (f : FineControl c) where
 
   pub transmitted-fine : FineControl (allTransmitted c)
   unfolding allTransmitted
-  transmitted-fine = invocations-fine c _ f (length-map (c .invocations) _ ∙ f .eight) (all-transmitted-fine (c .invocations) (f .invocations))
+  transmitted-fine = invocations-fine _ (length-map (c .invocations) _ ∙ f .eight) (all-transmitted-fine (c .invocations) (f .invocations))
 
   -- one more reject waits
   pub with-reject-fine : (r : Reject) → c .count < 8 → FineReject r → FineControl (withReject c r)
-  with-reject-fine r h g = record {
-    turn = f .turn;
-    state = f .state;
-    service = f .service;
-    four = f .four;
-    peer = record { some = f .peer .some; none = f .peer .none; most = f .peer .most; rest = f .peer .rest };
-    count = omega arith;
-    eight = f .eight;
-    invocations = f .invocations;
-    eights = length-set (c .rejects) (c .count) r ∙ f .eights;
-    rejects = record { each = λ i a b. each i a (eqb i (c .count)) refl; rest = rest };
-  }
+  with-reject-fine r h g =
+      goes-on (f .state) (f .four) (f .peer) (omega arith) (f .eight) (f .invocations) (length-set (c .rejects) (c .count) r ∙ f .eights)
+      (record { each = λ i a b. each i a (eqb i (c .count)) refl; rest = rest })
     where
       in-it : c .count < length (c .rejects)
       in-it = omega (arith, f .eights)

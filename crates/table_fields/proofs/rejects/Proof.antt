@@ -1,6 +1,6 @@
 use borrow.Author.Needs.{needs}
-use Rattle.table_places.proofs.rejects_of.Statement.{statement}
-use Rattle.table_places.proofs.rejects_of.Tie as tie
+use Rattle.table_fields.proofs.rejects.Statement.{statement}
+use Rattle.table_fields.proofs.rejects.Tie as tie
 
 reject-at-requires : tie.Need-reject-at-requires
 reject-at-requires c κs = search needs
@@ -29,8 +29,8 @@ reject-at-requires-8 c κs = search needs
 returns : tie.Need-returns
 returns c = cc
 
-pub rejects-of-spec : {M : Type 1} → statement M
-rejects-of-spec =
+pub rejects-spec : {M : Type 1} → statement M
+rejects-spec =
     tie.close
     (tie.spec
     reject-at-requires

@@ -1,6 +1,6 @@
 use borrow.Author.Needs.{needs}
-use Rattle.table_places.proofs.reject_by.Statement.{statement}
-use Rattle.table_places.proofs.reject_by.Tie as tie
+use Rattle.table_fields.proofs.reject_by.Statement.{statement}
+use Rattle.table_fields.proofs.reject_by.Tie as tie
 
 number-requires : tie.Need-number-requires
 number-requires c κs = search needs
