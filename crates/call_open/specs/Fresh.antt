@@ -13,74 +13,76 @@ use Rattle.laws.specs.Sums.{sum}
 use Rattle.laws.specs.Lists.{pad}
 use Rattle.laws.specs.Digits.{packedOctets, packed}
 use Rattle.laws.specs.Runs.{Wrote, wrote-more}
+use Rattle.laws.specs.Fields.{records}
+use Rattle.paper.specs.Sizes.{placesInAll, services}
 use Rattle.paper.specs.Shares.{limitFits, sharesFit}
 use Rattle.paper.specs.Dialogues.{emptyPlace}
 use Rattle.paper.specs.Calls.{isFree, freshTable}
-use Rattle.paper.specs.Layout.{placeOctets, allPlaces, flag, mapOctets, encode}
+use Rattle.paper.specs.Layout.{placeOctets, placeSize, placeStart, guaranteesAt, limitsAt, tableSize, flag, mapSize, mapOctets, encode}
 use Rattle.paper.specs.Outcome.{freshAnswer, freshOutcome}
 use Rattle.call_entry.specs.declared.Reply.{Reply}
 use Rattle.call_entry.specs.Replies.{reply, Told, told}
 
--- the map of 128 free places
-full : mapOctets (replicate 128 (emptyPlace 0)) ≡ replicate 16 255
+-- the map of free places alone
+full : mapOctets (replicate placesInAll (emptyPlace 0)) ≡ replicate mapSize 255
 unfolding packedOctets flag isFree ifB packed
 full = refl
 
 -- a free place of turn 0 has no octet but 0
-empty-octets : placeOctets (emptyPlace 0) ≡ replicate 284 0
+empty-octets : placeOctets (emptyPlace 0) ≡ replicate placeSize 0
 unfolding pad
 empty-octets = refl
 
-all-empty : (n : ℕ) → allPlaces (replicate n (emptyPlace 0)) ≡ replicate (n * 284) 0
-unfolding allPlaces
+all-empty : (n : ℕ) → records placeOctets (replicate n (emptyPlace 0)) ≡ replicate (n * placeSize) 0
+unfolding records
 all-empty zero = refl
 all-empty (suc n) =
-    let e : 284 + n * 284 ≡ suc n * 284 = omega arith in
-    ap (λ (l : List ℕ). l ++ allPlaces (replicate n (emptyPlace 0))) empty-octets
-    ∙ ap (λ (l : List ℕ). replicate 284 0 ++ l) (all-empty n)
-    ∙ replicate-append-replicate 284 (n * 284) 0
+    let e : placeSize + n * placeSize ≡ suc n * placeSize = omega arith in
+    ap (λ (l : List ℕ). l ++ records placeOctets (replicate n (emptyPlace 0))) empty-octets
+    ∙ ap (λ (l : List ℕ). replicate placeSize 0 ++ l) (all-empty n)
+    ∙ replicate-append-replicate placeSize (n * placeSize) 0
     ∙ ap (λ (k : ℕ). replicate k 0) e
 
 -- zeros with the map and the shares written over them
-pub fresh-octets : (t u v w g l : List ℕ) (i j k : ℕ) → length t ≡ 36400 → length g ≡ 16 → length l ≡ 16 → u ≡ replicate 36400 0
-    → Wrote u 0 (replicate 16 255) i v → Wrote v 16 g j w → (x : List ℕ) → Wrote w 32 l k x → x ≡ encode (freshTable g l)
+pub fresh-octets : (t u v w g l : List ℕ) (i j k : ℕ) → length t ≡ tableSize → length g ≡ services → length l ≡ services → u ≡ replicate tableSize 0
+    → Wrote u 0 (replicate mapSize 255) i v → Wrote v guaranteesAt g j w → (x : List ℕ) → Wrote w limitsAt l k x → x ≡ encode (freshTable g l)
 unfolding encode freshTable
 fresh-octets t u v w g l i j k a b c d e f x h =
-    let m : List ℕ = replicate 16 255 ++ (g ++ l) in
-    let n : length m ≡ 48 = simp length-append (omega (arith, b, c)) in
+    let m : List ℕ = replicate mapSize 255 ++ (g ++ l) in
+    let n : length m ≡ (placeStart 0) = simp length-append (omega (arith, b, c)) in
     let r = wrote-more e (omega (arith, e .past)) (wrote-more f (omega (arith, f .past, b)) h) in
-    r .holds ∙ ap (λ (y : List ℕ). sets y 0 m) d ∙ sets-eq m (replicate 36400 0) 0 (omega (arith, n, length-replicate {A = ℕ} 36400 0))
+    r .holds ∙ ap (λ (y : List ℕ). sets y 0 m) d ∙ sets-eq m (replicate tableSize 0) 0 (omega (arith, n, length-replicate {A = ℕ} tableSize 0))
     ∙ ap (λ (y : List ℕ). m ++ y) (rest (0 + length m) (omega (arith, n)))
-    ∙ append-assoc (replicate 16 255) (g ++ l) (replicate 36352 0) ∙ ap (λ (y : List ℕ). replicate 16 255 ++ y) (append-assoc g l (replicate 36352 0))
-    ∙ sym (ap (λ (y : List ℕ). mapOctets (replicate 128 (emptyPlace 0)) ++ (g ++ (l ++ y))) (all-empty 128) ∙ ap (λ (y : List ℕ). y ++ (g ++ (l ++ replicate 36352 0))) full)
+    ∙ append-assoc (replicate mapSize 255) (g ++ l) (replicate (placesInAll * placeSize) 0) ∙ ap (λ (y : List ℕ). replicate mapSize 255 ++ y) (append-assoc g l (replicate (placesInAll * placeSize) 0))
+    ∙ sym (ap (λ (y : List ℕ). mapOctets (replicate placesInAll (emptyPlace 0)) ++ (g ++ (l ++ y))) (all-empty placesInAll) ∙ ap (λ (y : List ℕ). y ++ (g ++ (l ++ replicate (placesInAll * placeSize) 0))) full)
   where
-    rest : (k : ℕ) → k ≡ 48 → drop {A = ℕ} k (replicate 36400 0) ≡ replicate 36352 0
+    rest : (k : ℕ) → k ≡ (placeStart 0) → drop {A = ℕ} k (replicate tableSize 0) ≡ replicate (placesInAll * placeSize) 0
     rest k e =
-        ap (λ (i : ℕ). drop {A = ℕ} i (replicate 36400 0)) e ∙ ap (drop 48) (sym (replicate-append-replicate 48 36352 0))
-        ∙ drop-at (replicate 48 0) (replicate 36352 0) 48 (length-replicate {A = ℕ} 48 0)
+        ap (λ (i : ℕ). drop {A = ℕ} i (replicate tableSize 0)) e ∙ ap (drop (placeStart 0)) (sym (replicate-append-replicate (placeStart 0) (placesInAll * placeSize) 0))
+        ∙ drop-at (replicate (placeStart 0) 0) (replicate (placesInAll * placeSize) 0) (placeStart 0) (length-replicate {A = ℕ} (placeStart 0) 0)
 
 -- ---- the number
 module _ (t g l : List ℕ) where
-  pub fresh-size : (length t ≡ 36400 → ⊥) → 1 ≡ freshAnswer t g l
+  pub fresh-size : (length t ≡ tableSize → ⊥) → 1 ≡ freshAnswer t g l
   unfolding freshAnswer
   fresh-size n = ne _ _ _ _ n refl
 
-  module _ (a : length t ≡ 36400) where
-    pub fresh-guarantees : (length g ≡ 16 → ⊥) → 1 ≡ freshAnswer t g l
+  module _ (a : length t ≡ tableSize) where
+    pub fresh-guarantees : (length g ≡ services → ⊥) → 1 ≡ freshAnswer t g l
     unfolding freshAnswer
     fresh-guarantees n = eq _ _ _ _ a (ne _ _ _ _ n refl)
 
-    module _ (b : length g ≡ 16) where
-      pub fresh-limits : (length l ≡ 16 → ⊥) → 1 ≡ freshAnswer t g l
+    module _ (b : length g ≡ services) where
+      pub fresh-limits : (length l ≡ services → ⊥) → 1 ≡ freshAnswer t g l
       unfolding freshAnswer
       fresh-limits n = eq _ _ _ _ a (eq _ _ _ _ b (ne _ _ _ _ n refl))
 
-      module _ (c : length l ≡ 16) where
-        pub fresh-unfit : sharesFit 128 16 (λ k. getD g k 0) (λ k. getD l k 0) ≡ false → 13 ≡ freshAnswer t g l
+      module _ (c : length l ≡ services) where
+        pub fresh-unfit : sharesFit placesInAll services (λ k. getD g k 0) (λ k. getD l k 0) ≡ false → 13 ≡ freshAnswer t g l
         unfolding freshAnswer
         fresh-unfit f = eq _ _ _ _ a (eq _ _ _ _ b (eq _ _ _ _ c (no _ _ _ f refl)))
 
-        pub fresh-fit : sharesFit 128 16 (λ k. getD g k 0) (λ k. getD l k 0) ≡ true → 0 ≡ freshAnswer t g l
+        pub fresh-fit : sharesFit placesInAll services (λ k. getD g k 0) (λ k. getD l k 0) ≡ true → 0 ≡ freshAnswer t g l
         unfolding freshAnswer
         fresh-fit f = eq _ _ _ _ a (eq _ _ _ _ b (eq _ _ _ _ c (yes _ _ _ f refl)))
 
@@ -94,26 +96,26 @@ module _ (t g l : List ℕ) where
 
 -- ---- shares, one service after another
 module _ (g l : ℕ → ℕ) (k : ℕ) where
-  pub fits-one : g k ≤ l k → l k ≤ 128 → limitFits 128 g l k ≡ true
-  fits-one a b = sym (ge _ _ _ _ a (sym (le-leb (l k) 128 b)))
+  pub fits-one : g k ≤ l k → l k ≤ placesInAll → limitFits placesInAll g l k ≡ true
+  fits-one a b = sym (ge _ _ _ _ a (sym (le-leb (l k) placesInAll b)))
 
-  unfit : k < 16 → limitFits 128 g l k ≡ false → false ≡ sharesFit 128 16 g l
+  unfit : k < services → limitFits placesInAll g l k ≡ false → false ≡ sharesFit placesInAll services g l
   unfolding sharesFit
-  unfit h e = no _ _ _ (all-fails (limitFits 128 g l) 16 k h e) refl
+  unfit h e = no _ _ _ (all-fails (limitFits placesInAll g l) services k h e) refl
 
-  pub unfit-guarantee : k < 16 → l k < g k → false ≡ sharesFit 128 16 g l
+  pub unfit-guarantee : k < services → l k < g k → false ≡ sharesFit placesInAll services g l
   unfit-guarantee h a = unfit h (sym (lt _ _ _ _ a refl))
 
-  pub unfit-limit : k < 16 → g k ≤ l k → 128 < l k → false ≡ sharesFit 128 16 g l
-  unfit-limit h a b = unfit h (sym (ge _ _ _ _ a (sym (lt-leb (l k) 128 b))))
+  pub unfit-limit : k < services → g k ≤ l k → placesInAll < l k → false ≡ sharesFit placesInAll services g l
+  unfit-limit h a b = unfit h (sym (ge _ _ _ _ a (sym (lt-leb (l k) placesInAll b))))
 
-  pub fits-all : (s : ℕ) → k ≡ 16 → all (limitFits 128 g l) k ≡ true → s ≡ sum g k → leb s 128 ≡ sharesFit 128 16 g l
+  pub fits-all : (s : ℕ) → k ≡ services → all (limitFits placesInAll g l) k ≡ true → s ≡ sum g k → leb s placesInAll ≡ sharesFit placesInAll services g l
   unfolding sharesFit
   fits-all s e a b =
-      yes _ _ _ (ap (all (limitFits 128 g l)) (sym e) ∙ a) (ap (λ (n : ℕ). leb n 128) (b ∙ ap (sum g) e))
+      yes _ _ _ (ap (all (limitFits placesInAll g l)) (sym e) ∙ a) (ap (λ (n : ℕ). leb n placesInAll) (b ∙ ap (sum g) e))
 
 -- where it is 0, all sizes are right
-pub fresh-sizes : (t g l : List ℕ) → 0 ≡ freshAnswer t g l → (length t ≡ 36400) × (length g ≡ 16) × (length l ≡ 16)
+pub fresh-sizes : (t g l : List ℕ) → 0 ≡ freshAnswer t g l → (length t ≡ tableSize) × (length g ≡ services) × (length l ≡ services)
 unfolding freshAnswer
 fresh-sizes t g l e =
     let a = was-eq _ _ _ _ e (λ q. omega arith) in

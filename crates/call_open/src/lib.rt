@@ -2,10 +2,13 @@
 use call_entry::Reply;
 use paper::GUARANTEES;
 use paper::LIMITS;
+use paper::MAP;
+use paper::SERVICES;
 use paper::TABLE_OCTETS;
 ghost use mathlib.Core.Path.{_≡_};
 ghost use mathlib.Core.List.{[]};
 ghost use lib.ListN.{length};
+ghost use Rattle.paper.specs.Sizes.{services};
 ghost use Rattle.paper.specs.Dialogues.{begun};
 ghost use Rattle.paper.specs.Calls.{freshTable};
 ghost use Rattle.paper.specs.Calls.Call.{Open};
@@ -25,10 +28,10 @@ fn fresh_answer(t: &[u8], g: &[u8], l: &[u8]) -> u32
     if t.len() != TABLE_OCTETS {
         return 1;
     }
-    if g.len() != 16 {
+    if g.len() != SERVICES {
         return 1;
     }
-    if l.len() != 16 {
+    if l.len() != SERVICES {
         return 1;
     }
     if table_shares::shares_fit(g, l) {
@@ -39,12 +42,12 @@ fn fresh_answer(t: &[u8], g: &[u8], l: &[u8]) -> u32
 
 // The empty table of those shares: every place free, every turn 0.
 fn lay_out(t: &mut [u8], g: &[u8], l: &[u8])
-    requires { ⌜ (length (now t) ≡ 36400) × (length (now g) ≡ 16) × (length (now l) ≡ 16) ⌝ }
+    requires { ⌜ (length (now t) ≡ tableSize) × (length (now g) ≡ services) × (length (now l) ≡ services) ⌝ }
     ensures { λ r. ⌜ now (t .exit) ≡ encode (freshTable (now (g .entry)) (now (l .entry))) ⌝ }
 {
     let map: [u8; 16] = [255; 16];
-    table_places::clear(t);
-    writing_octets::copy_at(t, 0, &map);
+    writing_octets::clear(t);
+    writing_octets::copy_at(t, MAP, &map);
     writing_octets::copy_at(t, GUARANTEES, g);
     writing_octets::copy_at(t, LIMITS, l);
 }

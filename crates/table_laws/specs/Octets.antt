@@ -38,14 +38,18 @@ rejects-small n l f i h = go (ltb i n) refl
     go false q = subst SmallReject (sym (f .rest i (ltb-false i n q) h)) (omega arith, omega arith, omega arith)
 
 -- ---- THE FIELDS' WIDTHS
+-- one after another, as the list of fields asks
+pub also : {P Q : Type 0} → P → Q → P × Q
+also p q = (p, q)
+
 place-sized : (x : Place) → FineControl (x .control) → Sized placeFields x
 place-sized x f =
     let i : length (x .control .invocations) ≡ mostInvocations = f .eight in
     let r : length (x .control .rejects) ≡ mostRejects = f .eights in
-    (refl, (refl, (refl, (refl, (f .four, (refl, (refl,
-    (omega (arith, i, pairs-length (λ v. v .id) invocationMark invocationBy (x .control .invocations)),
-    (omega (arith, r, pairs-length (λ v. v .id % 256) rejectMark rejectBy (x .control .rejects)),
-    (pad-length mostWaiting (x .waiting), tt))))))))))
+    also refl (also refl (also refl (also refl (also (f .four) (also refl (also refl
+    (also (omega (arith, i, pairs-length (λ v. v .id) invocationMark invocationBy (x .control .invocations)))
+    (also (omega (arith, r, pairs-length (λ v. v .id % 256) rejectMark rejectBy (x .control .rejects)))
+    (also (pad-length mostWaiting (x .waiting)) tt)))))))))
 
 pub placeOctets-length : (x : Place) → FineControl (x .control) → length (placeOctets x) ≡ placeSize
 placeOctets-length x f = laid-length placeFields x (place-sized x f)
@@ -103,18 +107,18 @@ module _ (s : List ℕ) (e : length s ≡ placeSize) (h : Octets s) where
         let b : t / 256 % 256 ≡ getD s 1 0 = omega (arith, h 0, h 1, h 2) in
         let c : t % 256 ≡ getD s 2 0 = omega (arith, h 0, h 1, h 2) in
         laid-from placeFields (placeBy s) 0 s
-        (rw (a, b, c) (span-part 3 0 s (omega arith)),
-        (span-part 1 stateAt s (omega arith),
-        (span-part 1 serviceAt s (omega arith),
-        (span-part 1 peerLengthAt s (omega arith),
-        (span-part 4 peerAt s (omega arith),
-        (ap (λ (n : ℕ). n ∷ []) slot-waits ∙ span-part 1 waitingLengthAt s (omega arith),
-        (span-part 1 countAt s (omega arith),
-        (pairs-from (λ v. v .id) invocationMark invocationBy mostInvocations firstInvocation s (λ i. (refl, omega arith)) (omega arith),
-        (pairs-from (λ r. r .id % 256) rejectMark rejectBy mostRejects firstReject s (λ i. reject-forth (getD s i 0) (getD s (suc i) 0) (h i)) (omega arith),
-        (pad-of mostWaiting (getD s waitingLengthAt 0) (drop waitingStart s) (simp length-drop (omega arith)) (ap zeros (drop-drop (getD s waitingLengthAt 0) waitingStart s) ∙ z)
-        ∙ sym (take-all mostWaiting (drop waitingStart s) (simp length-drop (omega arith))),
-        omega arith))))))))))
+        (also (rw (a, b, c) (span-part 3 0 s (omega arith)))
+        (also (span-part 1 stateAt s (omega arith))
+        (also (span-part 1 serviceAt s (omega arith))
+        (also (span-part 1 peerLengthAt s (omega arith))
+        (also (span-part 4 peerAt s (omega arith))
+        (also (ap (λ (n : ℕ). n ∷ []) slot-waits ∙ span-part 1 waitingLengthAt s (omega arith))
+        (also (span-part 1 countAt s (omega arith))
+        (also (pairs-from (λ v. v .id) invocationMark invocationBy mostInvocations firstInvocation s (λ i. (refl, omega arith)) (omega arith))
+        (also (pairs-from (λ r. r .id % 256) rejectMark rejectBy mostRejects firstReject s (λ i. reject-forth (getD s i 0) (getD s (suc i) 0) (h i)) (omega arith))
+        (also (pad-of mostWaiting (getD s waitingLengthAt 0) (drop waitingStart s) (simp length-drop (omega arith)) (ap zeros (drop-drop (getD s waitingLengthAt 0) waitingStart s) ∙ z)
+        ∙ sym (take-all mostWaiting (drop waitingStart s) (simp length-drop (omega arith))))
+        (omega arith)))))))))))
 
 -- ---- FROM A RECORD
 invocation-back : (v : Invocation) → FineInvocation v → invocationBy (v .id) (invocationMark v) ≡ v

@@ -16,7 +16,7 @@ use Rattle.paper.specs.Sizes.{placesInAll}
 use Rattle.paper.specs.Layout.{placeStart, placeOctets, placeSize, flag, mapSize, mapOctets, tableFields, tableSize, encode, placeBy, slot, view, mapBit}
 use Rattle.paper.specs.Rules.{placeKept}
 use Rattle.table_laws.specs.Fine.{Octets, FinePlace, Fine}
-use Rattle.table_laws.specs.Octets.{placeOctets-length, place-back}
+use Rattle.table_laws.specs.Octets.{also, placeOctets-length, place-back}
 use Rattle.table_laws.specs.Slots.{KeptSlot, slotKept, slot-is, fine-kept}
 
 -- ---- the map
@@ -70,8 +70,8 @@ module _ (T : Table) (f : Fine T) where
 
   pub table-sized : Sized tableFields T
   table-sized =
-      (map-length (T .places), (f .guarantees, (f .limits,
-      (records-length placeOctets placeSize (emptyPlace 0) (T .places) fine-fit ∙ ap (λ (n : ℕ). n * placeSize) (f .places), tt))))
+      also (map-length (T .places)) (also (f .guarantees) (also (f .limits)
+      (also (records-length placeOctets placeSize (emptyPlace 0) (T .places) fine-fit ∙ ap (λ (n : ℕ). n * placeSize) (f .places)) tt)))
 
   pub encode-length : length (encode T) ≡ tableSize
   unfolding encode
@@ -161,6 +161,7 @@ module _ (t : List ℕ) (e : length t ≡ tableSize) where
     encode-view =
         let n : length (drop (offset tableFields 3) t) ≤ placesInAll * placeSize = simp length-drop (omega arith) in
         laid-from tableFields (view t) 0 t
-        (map-view, (refl, (refl, (
-        records-from placeOctets placeSize (emptyPlace 0) t (λ q. placeBy (slot t q)) (offset tableFields 3) placesInAll 0 (omega arith) (λ p h. kept-each p (omega arith) .same)
-        ∙ sym (take-all (placesInAll * placeSize) (drop (offset tableFields 3) t) n), omega arith))))
+        (also map-view (also refl (also refl
+        (also (records-from placeOctets placeSize (emptyPlace 0) t (λ q. placeBy (slot t q)) (offset tableFields 3) placesInAll 0 (omega arith) (λ p h. kept-each p (omega arith) .same)
+        ∙ sym (take-all (placesInAll * placeSize) (drop (offset tableFields 3) t) n))
+        (omega arith)))))

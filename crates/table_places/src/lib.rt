@@ -14,11 +14,12 @@ use paper::TURN;
 use paper::TURNS;
 ghost use mathlib.Core.Path.{_≡_};
 ghost use mathlib.Core.List.{[]};
-ghost use Prim.Native.Nat.{_≤_, _<_};
-ghost use lib.ListN.{length};
+ghost use Prim.Native.Nat.{_%_, _≤_, _<_};
+ghost use lib.ListN.{length, getD};
 ghost use Rattle.laws.specs.Parts.{over};
-ghost use Rattle.paper.specs.Sizes.{placesInAll, mostWaiting, turns, localID, nextTurn};
-ghost use Rattle.paper.specs.Dialogues.{withControl, freed, begun};
+ghost use Rattle.paper.specs.Sizes.{placesInAll, mostInvocations, mostRejects, mostWaiting, turns, localID, nextTurn};
+ghost use Rattle.paper.specs.Invocations.{noInvocation};
+ghost use Rattle.paper.specs.Dialogues.{noReject, withControl, freed, begun};
 ghost use Rattle.paper.specs.Calls.{placeAt, withPlace, isDialogue, owns, lowestFree};
 ghost use Rattle.paper.specs.Layout.{placeStart, placeOctets, placeSize, tableSize, placeBy, flag, encode, view};
 ghost use Rattle.table_laws.specs.Fine.{FineControl};
@@ -161,9 +162,11 @@ fn head_octets(c: Control, n: u8) -> [u8; 12]
     ]
 }
 
-fn invocation_mark(v: Invocation) -> u8
-    ensures { λ r. ⌜ r ≡ madeInvocation v ⌝ }
+fn invocation_mark(l: [Invocation; 8], i: usize) -> u8
+    requires { ⌜ i < mostInvocations ⌝ }
+    ensures { λ r. ⌜ r ≡ madeInvocation (getD l i noInvocation) ⌝ }
 {
+    let v = l[i];
     v.state % 8 + v.class % 8 * 8 + v.shown % 4 * 64
 }
 
@@ -172,27 +175,37 @@ fn invocation_octets(l: [Invocation; 8]) -> [u8; 16]
 {
     [
         l[0].id,
-        invocation_mark(l[0]),
+        invocation_mark(l, 0),
         l[1].id,
-        invocation_mark(l[1]),
+        invocation_mark(l, 1),
         l[2].id,
-        invocation_mark(l[2]),
+        invocation_mark(l, 2),
         l[3].id,
-        invocation_mark(l[3]),
+        invocation_mark(l, 3),
         l[4].id,
-        invocation_mark(l[4]),
+        invocation_mark(l, 4),
         l[5].id,
-        invocation_mark(l[5]),
+        invocation_mark(l, 5),
         l[6].id,
-        invocation_mark(l[6]),
+        invocation_mark(l, 6),
         l[7].id,
-        invocation_mark(l[7]),
+        invocation_mark(l, 7),
     ]
 }
 
-fn reject_mark(r: Reject) -> u8
-    ensures { λ n. ⌜ n ≡ madeReject r ⌝ }
+fn reject_id(l: [Reject; 8], i: usize) -> u8
+    requires { ⌜ i < mostRejects ⌝ }
+    ensures { λ r. ⌜ r ≡ getD l i noReject .id % 256 ⌝ }
 {
+    let v = l[i];
+    laws::low(v.id)
+}
+
+fn reject_mark(l: [Reject; 8], i: usize) -> u8
+    requires { ⌜ i < mostRejects ⌝ }
+    ensures { λ n. ⌜ n ≡ madeReject (getD l i noReject) ⌝ }
+{
+    let r = l[i];
     (r.problem % 256 % 8 + r.problem / 256 % 16 * 8 + r.id / 256 % 2 * 128) as u8
 }
 
@@ -200,22 +213,22 @@ fn reject_octets(l: [Reject; 8]) -> [u8; 16]
     ensures { λ r. ⌜ r ≡ rejectPairs l ⌝ }
 {
     [
-        laws::low(l[0].id),
-        reject_mark(l[0]),
-        laws::low(l[1].id),
-        reject_mark(l[1]),
-        laws::low(l[2].id),
-        reject_mark(l[2]),
-        laws::low(l[3].id),
-        reject_mark(l[3]),
-        laws::low(l[4].id),
-        reject_mark(l[4]),
-        laws::low(l[5].id),
-        reject_mark(l[5]),
-        laws::low(l[6].id),
-        reject_mark(l[6]),
-        laws::low(l[7].id),
-        reject_mark(l[7]),
+        reject_id(l, 0),
+        reject_mark(l, 0),
+        reject_id(l, 1),
+        reject_mark(l, 1),
+        reject_id(l, 2),
+        reject_mark(l, 2),
+        reject_id(l, 3),
+        reject_mark(l, 3),
+        reject_id(l, 4),
+        reject_mark(l, 4),
+        reject_id(l, 5),
+        reject_mark(l, 5),
+        reject_id(l, 6),
+        reject_mark(l, 6),
+        reject_id(l, 7),
+        reject_mark(l, 7),
     ]
 }
 

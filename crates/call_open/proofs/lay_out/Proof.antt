@@ -3,6 +3,7 @@ use Rattle.call_open.specs.Fresh.{fresh-octets}
 use lib.ListN.{replicate}
 use Prim.Native.Nat.{ℕ}
 use mathlib.Core.Path.{_≡_, ap, _∙_}
+use Rattle.paper.specs.Layout.{tableSize}
 use borrow.Author.Needs.{needs}
 use Rattle.call_open.proofs.lay_out.Statement.{statement}
 use Rattle.call_open.proofs.lay_out.Tie as tie
@@ -33,7 +34,7 @@ returns c =
     let copy-at2 = c .before .before .before .before .before .before .copy-at2 in
     let copy-at3 = c .before .before .copy-at3 in
     let pre = c .before .before .before .before .before .before .before .before .before .before .before .before .before .before .before .before .before .before .before .before .pre in
-    let n : length (args .t .now) ≡ 36400 = pre .0 in
+    let n : length (args .t .now) ≡ tableSize = pre .0 in
     fresh-octets (args .t .now) _ _ _ (args .g .now) (args .l .now) _ _ _ n (pre .1) (pre .2)
     (clear .ensures ∙ ap (λ (n : ℕ). replicate n 0) n) (copy-at .ensures) (copy-at2 .ensures) _ (copy-at3 .ensures)
 
