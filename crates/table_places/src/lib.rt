@@ -16,7 +16,6 @@ ghost use Rattle.laws.specs.Lists.{span};
 ghost use Rattle.laws.specs.Parts.{over};
 ghost use Rattle.paper.specs.Sizes.{localID, nextTurn};
 ghost use Rattle.paper.specs.Dialogues.{withControl, freed, begun};
-ghost use Rattle.paper.specs.Shares.{free};
 ghost use Rattle.paper.specs.Calls.{placeAt, withPlace, isDialogue, owns, lowestFree};
 ghost use Rattle.paper.specs.Layout.{placeStart, placeOctets, invocationBy, invocationsAt, rejectBy, rejectsAt, controlBy, placeBy, flag, encode, view};
 ghost use Rattle.table_laws.specs.Fine.{Storable};
