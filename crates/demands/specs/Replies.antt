@@ -4,7 +4,7 @@ use mathlib.Core.Bool.{Bool, true, false, not, _||_}
 use mathlib.Core.List.{List, []}
 use Prim.Native.Nat.{ℕ, zero, suc, _≤_, _<_}
 use native.Mathlib.Omega.{arith}
-use lib.ListN.{length, getD}
+use lib.ListN.{length}
 use Rattle.laws.specs.If.{ifB, lt, eq, ne, ge, yes, no, by-eq, by-b, was-eq, was-yes, true-false}
 use Rattle.paper.specs.Sizes.{placesInAll, services, placeOf}
 use Rattle.paper.specs.Shares.{shared, sharesFit}
