@@ -6,9 +6,9 @@ use Prim.Native.Nat.{ℕ, _+_, _<_, _≤_}
 use native.Mathlib.Omega.{arith}
 use lib.ListN.{getD}
 use Rattle.laws.specs.If.{ifLt, ifEq, ifB, lt, ge, eq, ne, yes, no}
-use Rattle.paper.specs.Sizes.{placesInAll, services, placeOf}
-use Rattle.paper.specs.Shares.{gives}
-use Rattle.paper.specs.Calls.{placeAt, guaranteeOf, limitOf, held, mayBegin, lowestFree, owns}
+use Rattle.paper.specs.Sizes.{services, placeOf}
+use Rattle.paper.specs.Shares.{Resource, gives}
+use Rattle.paper.specs.Calls.{placeAt, dialogues, mayBegin, lowestFree, owns}
 use Rattle.paper.specs.Layout.{flag, view}
 use Rattle.paper.specs.declared.Control.{Control}
 use Rattle.table_laws.specs.Fine.{FineControl, FinePlace}
@@ -18,7 +18,7 @@ use Rattle.table_laws.specs.Owners.{owned-is}
 use Rattle.table_laws.specs.Counts.{free-there, lowest-is-free}
 use Rattle.table_shares.specs.Share.{gives-room}
 use Rattle.table_shares.specs.Telling.{Told}
-use Rattle.table_rules.specs.Checking.{tableAnswer, Passed, passed-told}
+use Rattle.table_rules.specs.Checking.{tableAnswer, Passed}
 
 -- 1, 2, 3, else 0; of a call on a dialogue 5 too
 unfoldable pub entryOf : List ℕ → ℕ → ℕ
@@ -70,13 +70,10 @@ module _ (t : List ℕ) (s : ℕ) where
   enters-service m e h = record { is = eq _ _ _ _ (sym e) (ge _ _ _ _ h refl); inside = λ q. absurd (omega arith); may = λ q. absurd (omega arith) }
 
   pub enters : (counts : List ℕ) (rest left : ℕ) → 0 ≡ tableAnswer t → Passed t counts rest left → s < 16 → (m : Bool) (count guarantee limit : ℕ)
-      → count ≡ getD counts s 0 → guarantee ≡ getD t (16 + s) 0 → limit ≡ getD t (32 + s) 0
-      → ((g l c : ℕ → ℕ) (k : ℕ) → Told g l c k count guarantee limit rest left → m ≡ gives placesInAll services g l c k) → Enters t s 0 m
+      → count ≡ getD counts s 0 → guarantee ≡ dialogues (view t) .guarantee s → limit ≡ dialogues (view t) .limit s
+      → ((R : Resource) (k : ℕ) → Told R k count guarantee limit rest left → m ≡ gives R k) → Enters t s 0 m
   unfolding entryOf mayBegin
   enters counts rest left e f h m count guarantee limit a b c k =
-      let g : ℕ → ℕ = guaranteeOf (view t) in
-      let l : ℕ → ℕ = limitOf (view t) in
-      let w = passed-told t counts rest left s f h in
       record {
         is = eq _ _ _ _ (sym e) (lt _ _ _ _ h refl);
         inside =
@@ -85,11 +82,11 @@ module _ (t : List ℕ) (s : ℕ) where
               ready = f .ready;
               stands = e;
               service = h;
-              there = λ y. let z = free-there (view t) (f .ready .fine) (gives-room placesInAll services g l (held (view t .places)) (f .shares) (f .sound) s h y) in
+              there = λ y. let z = free-there (view t) (f .ready .fine) (gives-room (dialogues (view t)) (f .sound) s h y) in
                   (z, lowest-is-free (view t) (f .ready .fine) z);
             };
-        may = λ q. k g l (held (view t .places)) s
-            (record { service = w .service; counted = a ∙ w .counted; guaranteed = b ∙ w .guaranteed; limited = c ∙ w .limited; kept = w .kept; remain = w .remain });
+        may = λ q. k (dialogues (view t)) s
+            (record { service = h; counted = a ∙ f .counted s h; guaranteed = b; limited = c; kept = f .kept; remain = f .remain });
       }
 
 module _ (t : List ℕ) (s d : ℕ) where

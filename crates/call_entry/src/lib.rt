@@ -1,6 +1,7 @@
 // What every call begins with and ends in: the numbers 1, 2, 3 and 5 in this order, and the reply.
 use paper::GUARANTEES;
 use paper::LIMITS;
+use paper::PLACES;
 ghost use mathlib.Core.Path.{_≡_};
 ghost use Rattle.paper.specs.Sizes.{octetOf};
 ghost use Rattle.call_entry.specs.Replies.{reply};
@@ -81,8 +82,9 @@ pub fn enter(t: &[u8], service: u32) -> Entered
     let i = service as usize;
     let counts = c.counts;
     let count = wide(counts[i]);
-    let guarantee = wide(t[GUARANTEES + i]);
-    let limit = wide(t[LIMITS + i]);
+    let share = table_shares::share_at(&t[GUARANTEES..LIMITS], &t[LIMITS..PLACES], i);
+    let guarantee = share.guarantee;
+    let limit = share.limit;
     let may = table_shares::gives_place(count, guarantee, limit, c.unused, c.free);
     return Entered {
         answer: 0,

@@ -1,21 +1,18 @@
 -- A FRESH TABLE: its octets, and the number that is answered (01, "Answer numbers": 1, 13 or 0). Assumes nothing.
 use mathlib.Core.Path.{_≡_, refl, sym, ap, _∙_}
 use mathlib.Core.Bool.{true, false}
-use mathlib.Core.List.{List, [], _++_, append-assoc}
-use Prim.Native.Nat.{ℕ, zero, suc, _+_, _*_, _<_, _≤_}
+use mathlib.Core.List.{List, _++_, append-assoc}
+use Prim.Native.Nat.{ℕ, zero, suc, _+_, _*_, _<_}
 use native.Mathlib.Omega.{arith}
-use lib.ListN.{length, getD, drop, replicate, length-replicate, length-append, replicate-append-replicate}
+use lib.ListN.{length, drop, replicate, length-replicate, length-append, replicate-append-replicate}
 use lib.Seq.{sets, sets-eq, drop-at}
-use lib.Dec.{leb}
-use borrow.Author.Tests.{le-leb, lt-leb}
-use Rattle.laws.specs.If.{ifB, lt, ge, eq, ne, yes, no, was-eq, all, all-fails}
-use Rattle.laws.specs.Sums.{sum}
+use Rattle.laws.specs.If.{ifB, eq, ne, yes, no, was-eq}
 use Rattle.laws.specs.Lists.{pad}
 use Rattle.laws.specs.Digits.{packedOctets, packed}
 use Rattle.laws.specs.Runs.{Wrote, wrote-more}
 use Rattle.laws.specs.Fields.{records}
 use Rattle.paper.specs.Sizes.{placesInAll, services}
-use Rattle.paper.specs.Shares.{limitFits, sharesFit}
+use Rattle.paper.specs.Shares.{shared, sharesFit}
 use Rattle.paper.specs.Dialogues.{emptyPlace}
 use Rattle.paper.specs.Calls.{isFree, freshTable}
 use Rattle.paper.specs.Layout.{placeOctets, placeSize, placeStart, guaranteesAt, limitsAt, tableSize, flag, mapSize, mapOctets, encode}
@@ -78,11 +75,11 @@ module _ (t g l : List ℕ) where
       fresh-limits n = eq _ _ _ _ a (eq _ _ _ _ b (ne _ _ _ _ n refl))
 
       module _ (c : length l ≡ services) where
-        pub fresh-unfit : sharesFit placesInAll services (λ k. getD g k 0) (λ k. getD l k 0) ≡ false → 13 ≡ freshAnswer t g l
+        pub fresh-unfit : sharesFit (shared placesInAll services g l (λ k. 0)) ≡ false → 13 ≡ freshAnswer t g l
         unfolding freshAnswer
         fresh-unfit f = eq _ _ _ _ a (eq _ _ _ _ b (eq _ _ _ _ c (no _ _ _ f refl)))
 
-        pub fresh-fit : sharesFit placesInAll services (λ k. getD g k 0) (λ k. getD l k 0) ≡ true → 0 ≡ freshAnswer t g l
+        pub fresh-fit : sharesFit (shared placesInAll services g l (λ k. 0)) ≡ true → 0 ≡ freshAnswer t g l
         unfolding freshAnswer
         fresh-fit f = eq _ _ _ _ a (eq _ _ _ _ b (eq _ _ _ _ c (yes _ _ _ f refl)))
 
@@ -93,26 +90,6 @@ module _ (t g l : List ℕ) where
   pub fresh-done : 0 ≡ freshAnswer t g l → {r : Reply} {u : List ℕ} → r ≡ reply 0 0 0 0 → u ≡ encode (freshTable g l) → Told (freshOutcome t g l) r (record { table = u; rows = []; space = [] })
   unfolding freshOutcome
   fresh-done e d f = told (sym (eq _ _ _ _ (sym e) refl)) d (ap (λ (y : List ℕ). record { table = y; rows = []; space = [] }) f)
-
--- ---- shares, one service after another
-module _ (g l : ℕ → ℕ) (k : ℕ) where
-  pub fits-one : g k ≤ l k → l k ≤ placesInAll → limitFits placesInAll g l k ≡ true
-  fits-one a b = sym (ge _ _ _ _ a (sym (le-leb (l k) placesInAll b)))
-
-  unfit : k < services → limitFits placesInAll g l k ≡ false → false ≡ sharesFit placesInAll services g l
-  unfolding sharesFit
-  unfit h e = no _ _ _ (all-fails (limitFits placesInAll g l) services k h e) refl
-
-  pub unfit-guarantee : k < services → l k < g k → false ≡ sharesFit placesInAll services g l
-  unfit-guarantee h a = unfit h (sym (lt _ _ _ _ a refl))
-
-  pub unfit-limit : k < services → g k ≤ l k → placesInAll < l k → false ≡ sharesFit placesInAll services g l
-  unfit-limit h a b = unfit h (sym (ge _ _ _ _ a (sym (lt-leb (l k) placesInAll b))))
-
-  pub fits-all : (s : ℕ) → k ≡ services → all (limitFits placesInAll g l) k ≡ true → s ≡ sum g k → leb s placesInAll ≡ sharesFit placesInAll services g l
-  unfolding sharesFit
-  fits-all s e a b =
-      yes _ _ _ (ap (all (limitFits placesInAll g l)) (sym e) ∙ a) (ap (λ (n : ℕ). leb n placesInAll) (b ∙ ap (sum g) e))
 
 -- where it is 0, all sizes are right
 pub fresh-sizes : (t g l : List ℕ) → 0 ≡ freshAnswer t g l → (length t ≡ tableSize) × (length g ≡ services) × (length l ≡ services)

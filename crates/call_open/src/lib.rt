@@ -34,7 +34,7 @@ fn fresh_answer(t: &[u8], g: &[u8], l: &[u8]) -> u32
     if l.len() != SERVICES {
         return 1;
     }
-    if table_shares::shares_fit(g, l) {
+    if table_shares::shares_fit(g, l, 128) {
         return 0;
     }
     return 13;

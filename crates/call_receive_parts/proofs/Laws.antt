@@ -38,7 +38,7 @@ use Rattle.call_receive_rows.specs.declared.Shown.{Shown}
 use Rattle.call_receive_rows.specs.Shows.{Shows}
 use Rattle.call_receive_parts.specs.declared.Counted.{Counted}
 use Rattle.call_receive_parts.specs.Receives.{Read, Standing, Counts, Rowed, Leaves, Receives}
-use Rattle.call_receive_parts.specs.Room.{may-there}
+use Rattle.demand_kept.specs.Shared.{lowest-there}
 
 -- ---- IDS
 pub octet-in : (s : List ℕ) (a n i : ℕ) → i < n → getD s (a + i) 0 ≡ getD (take n (drop a s)) i 0
@@ -282,5 +282,5 @@ module _ (s : List ℕ) (m : Message) (cause : ℕ) (given : List ℕ) (is : giv
 -- ---- A PLACE FOR A BEGIN
 pub lowest-standing : (t : List ℕ) (service : ℕ) (n : Counted) → Counts t service n → mayBegin (view t) service ≡ true → (p : ℕ) → p ≡ lowestFree (view t) → Standing 1 t p
 lowest-standing t service n w e p q =
-    let h : lowestFree (view t) < 128 = may-there (view t) (w .ready .fine) service (w .service) e in
+    let h : lowestFree (view t) < 128 = lowest-there (view t) (w .ready .fine) service (w .service) e in
     subst (Standing 1 t) (sym q) (record { ready = w .ready; small = h; told = lowest-is-free (view t) (w .ready .fine) h })

@@ -4,13 +4,11 @@ use mathlib.Core.List.{List, []}
 use Prim.Native.Nat.{ℕ, _<_, _≤_}
 use lib.ListN.{length}
 use lib.Seq.{sets}
-use Rattle.laws.specs.Sums.{sum}
 use Rattle.paper.specs.declared.Message.{Message}
 use Rattle.paper.specs.declared.Control.{Control}
-use Rattle.paper.specs.Sizes.{placesInAll, services}
 use Rattle.paper.specs.Rows.{allActed, rowsOctets}
-use Rattle.paper.specs.Shares.{unused, free}
-use Rattle.paper.specs.Calls.{Out, placeAt, guaranteeOf, held, itemsOf, shownRows}
+use Rattle.paper.specs.Shares.{allUnused, free}
+use Rattle.paper.specs.Calls.{Out, placeAt, held, dialogues, itemsOf, shownRows}
 use Rattle.paper.specs.Layout.{flag, encode, view}
 use Rattle.table_laws.specs.Fine.{Octets}
 use Rattle.table_laws.specs.Ready.{Ready}
@@ -36,8 +34,8 @@ pub record Counts (t : List ℕ) (k : ℕ) (n : Counted) : Type 0 where
   pub ready : Ready t
   pub service : k < 16
   pub counted : n .count ≡ held (view t .places) k
-  pub kept : n .unused ≡ sum (unused (guaranteeOf (view t)) (held (view t .places))) services
-  pub remain : n .free ≡ free placesInAll services (held (view t .places))
+  pub kept : n .unused ≡ allUnused (dialogues (view t))
+  pub remain : n .free ≡ free (dialogues (view t))
 
 -- the dialogue's row and the components', and the control record after them
 pub record Rowed (kind me room : ℕ) (c : Control) (s : List ℕ) (m : Message) (old : List ℕ) (r : Shown) (new : List ℕ) : Type 0 where

@@ -23,6 +23,7 @@ use paper::Control;
 use paper::GUARANTEES;
 use paper::LIMITS;
 use paper::Message;
+use paper::PLACES;
 use paper::Row;
 use paper::Run;
 
@@ -237,9 +238,9 @@ fn may_begin(t: &[u8], service: u32, n: Counted) -> bool
     ensures { λ r. ⌜ r ≡ mayBegin (view (now (t .entry))) service ⌝ }
 {
     let k = service as usize;
-    let guarantee = number(t[GUARANTEES + k]);
-    let limit = number(t[LIMITS + k]);
-    return table_shares::gives_place(n.count, guarantee, limit, n.unused, n.free);
+    let share = table_shares::share_at(&t[GUARANTEES..LIMITS], &t[LIMITS..PLACES], k);
+    let guarantee = share.guarantee;
+    return table_shares::gives_place(n.count, guarantee, share.limit, n.unused, n.free);
 }
 
 // "Begin without a place, 4"

@@ -5,14 +5,16 @@ use Prim.Native.Nat.{ℕ, suc, _+_, _-_, _≤_, _<_}
 use native.Mathlib.Omega.{arith}
 use lib.Dec.{eqb}
 use borrow.Author.Tests.{eqb-true, eqb-false, eq-eqb}
-use Rattle.laws.specs.If.{eq, ne, yes, was-yes, true-false}
+use Rattle.laws.specs.If.{eq, ne, yes}
 use Rattle.laws.specs.Sums.{sum, but, but-same, but-other, sumBy, sumBy-at}
-use Rattle.paper.specs.Shares.{gives, sharesFit, sharesKept}
+use Rattle.paper.specs.Sizes.{services}
+use Rattle.paper.specs.Shares.{gives, sharesKept}
 use Rattle.paper.specs.Dialogues.{Place, emptyPlace, freed}
-use Rattle.paper.specs.Calls.{Table, placeAt, withPlace, guaranteeOf, limitOf, isFree, isOf, held, mayBegin, lowestFree}
+use Rattle.paper.specs.Calls.{Table, placeAt, withPlace, isFree, isOf, held, dialogues, mayBegin, lowestFree}
 use Rattle.paper.specs.Layout.{flag}
 use Rattle.paper.specs.Rules.{tableShares}
-use Rattle.table_shares.specs.Share.{Shares, Sound, fits-shares, kept-sound, sound-kept, take-sound, release-sound, gives-room}
+use Rattle.table_shares.specs.Share.{holding, Sound, kept-sound, sound-kept, take-sound, release-sound, gives-room}
+use Rattle.table_shares.specs.Counting.{only, Moves, moves-not, moves-but}
 use Rattle.table_laws.specs.Fine.{FinePlace, Fine}
 use Rattle.table_laws.specs.Slots.{free-is}
 use Rattle.table_laws.specs.Counts.{all-places, free-there, lowest-is-free}
@@ -60,40 +62,33 @@ module _ (T : Table) (f : Fine T) (p : ℕ) (h : p < 128) (x : Place) (s : ℕ) 
       held-but (now s - 1) (omega (arith, set-there s, of-free x s b, of-own (placeAt T p) s a e))
       (λ k n. of-free x k b ∙ sym (of-other (placeAt T p) k a (λ w. n (sym w ∙ e))))
 
--- A TABLE THAT ONE CALL OF A SERVICE LEFT: fine, with the same shares; what was begun (b) and ended (e) of that service is what it
--- holds more or less
+-- A TABLE THAT ONE CALL OF A SERVICE LEFT: fine; what was begun (b) and ended (e) of that service is what it holds more or less
 pub record Moved (T : Table) (s b e : ℕ) (U : Table) : Type 0 where
   pub fine : Fine U
-  pub guarantees : U .guarantees ≡ T .guarantees
-  pub limits : U .limits ≡ T .limits
-  pub own : b + held (T .places) s ≡ e + held (U .places) s
-  pub others : (k : ℕ) → (k ≡ s → ⊥) → held (U .places) k ≡ held (T .places) k
+  pub moves : Moves (dialogues T) (only s b) (only s e) (dialogues U)
 
 pub moved-as : {T U : Table} {s b e c d : ℕ} → Moved T s b e U → c ≡ b → d ≡ e → Moved T s c d U
-moved-as m p q = record { fine = m .fine; guarantees = m .guarantees; limits = m .limits; own = omega (arith, m .own); others = m .others }
+moved-as {T} {U} {s} {b} {e} {c} {d} m p q = subst (λ (n : ℕ). Moved T s n d U) (sym p) (subst (λ (n : ℕ). Moved T s b n U) (sym q) m)
 
 -- THE COUNTS of a fine table are sound, and a table with sound ones keeps the shares
 module _ (T : Table) (f : Fine T) where
-  fit : sharesFit 128 16 (guaranteeOf T) (limitOf T) ≡ true
+  pub sound : Sound (dialogues T)
   unfolding tableShares
-  fit = was-yes _ _ _ (sym (f .shares)) true-false .0
-
-  pub shares : Shares 128 16 (guaranteeOf T) (limitOf T)
-  shares = fits-shares 128 16 (guaranteeOf T) (limitOf T) fit
-
-  pub sound : Sound 128 16 (guaranteeOf T) (limitOf T) (held (T .places))
-  unfolding tableShares
-  sound =
-      kept-sound 128 16 (guaranteeOf T) (limitOf T) (held (T .places)) (few (sum (held (T .places)) 16) (sumBy flag (T .places)) (all-places T f))
-      (sym (was-yes _ _ _ (sym (f .shares)) true-false .1))
+  sound = kept-sound (dialogues T) (few (sum (held (T .places)) services) (sumBy flag (T .places)) (all-places T f)) (f .shares)
     where
       few : (n m : ℕ) → n + m ≡ 128 → n ≤ 128
       few n m e = omega arith
 
-  kept-by : (p : ℕ) (x : Place) (c : ℕ → ℕ) → held (withPlace T p x .places) ≡ c → Sound 128 16 (guaranteeOf T) (limitOf T) c → tableShares (withPlace T p x) ≡ true
+  -- one place changed, and with it what one service holds
+  moved-by : (p : ℕ) → p < 128 → (x : Place) → FinePlace x → (s b e v : ℕ) → held (withPlace T p x .places) ≡ but (held (T .places)) s v
+      → Sound (holding (dialogues T) (but (held (T .places)) s v)) → b + held (T .places) s ≡ e + v → Moved T s b e (withPlace T p x)
   unfolding tableShares
-  kept-by p x c e s =
-      sym (yes _ _ _ fit (sym (ap (sharesKept 128 16 (guaranteeOf T) (limitOf T)) e ∙ sound-kept 128 16 (guaranteeOf T) (limitOf T) c s)))
+  moved-by p h x g s b e v after kept count =
+      let is : dialogues (withPlace T p x) ≡ holding (dialogues T) (but (held (T .places)) s v) = ap (holding (dialogues T)) after in
+      record {
+        fine = fine-with T f p h x g (ap sharesKept is ∙ sound-kept _ kept);
+        moves = subst (Moves (dialogues T) (only s b) (only s e)) (sym is) (moves-but (dialogues T) s b e v count);
+      }
 
   one-held : (p : ℕ) → p < 128 → (placeAt T p .control .state ≡ 0 → ⊥) → 0 < held (T .places) (placeAt T p .control .service)
   unfolding held
@@ -103,7 +98,7 @@ module _ (T : Table) (f : Fine T) where
 
   -- NOTHING CHANGED
   pub not-moved : (s : ℕ) → Moved T s 0 0 T
-  not-moved s = record { fine = f; guarantees = refl; limits = refl; own = refl; others = λ k n. refl }
+  not-moved s = record { fine = f; moves = moves-not (dialogues T) (only s 0) }
 
   -- FREED, by the service that has it
   pub moved-freed : (p s : ℕ) → p < 128 → (placeAt T p .control .state ≡ 0 → ⊥) → placeAt T p .control .service ≡ s
@@ -112,16 +107,8 @@ module _ (T : Table) (f : Fine T) where
       let x : Place = placeAt T p in
       let c : ℕ → ℕ = held (T .places) in
       let some : 0 < c s = subst (λ (k : ℕ). 0 < c k) e (one-held p h n) in
-      let after : held (withPlace T p (freed x) .places) ≡ but c s (c s - 1) = held-freed T f p h (freed x) s n e refl in
-      record {
-        fine = fine-with T f p h (freed x) (freed-fine x)
-            (kept-by p (freed x) (but c s (c s - 1)) after
-            (release-sound 128 16 (guaranteeOf T) (limitOf T) c shares sound s (subst (λ (k : ℕ). k < 16) e (f .each p h .control .service)) some));
-        guarantees = refl;
-        limits = refl;
-        own = omega (arith, ap (λ (g : ℕ → ℕ). g s) after, but-same c s (c s - 1));
-        others = λ k m. ap (λ (g : ℕ → ℕ). g k) after ∙ but-other c s (c s - 1) k m;
-      }
+      moved-by p h (freed x) (freed-fine x) s 0 1 (c s - 1) (held-freed T f p h (freed x) s n e refl)
+      (release-sound (dialogues T) sound s (subst (λ (k : ℕ). k < 16) e (f .each p h .control .service)) some) (omega arith)
 
   -- A DIALOGUE THAT GOES ON
   pub moved-on : (p s : ℕ) → p < 128 → (placeAt T p .control .state ≡ 0 → ⊥) → (y : Place) → GoesOn (placeAt T p) y → Moved T s 0 0 (withPlace T p y)
@@ -130,32 +117,22 @@ module _ (T : Table) (f : Fine T) where
       held-same (T .places) p y (omega (arith, f .places)) (of-same y (placeAt T p) (g .state) n (g .service)) in
       record {
         fine = fine-stays T f p h y (g .fine) n (g .state) (g .service);
-        guarantees = refl;
-        limits = refl;
-        own = omega (arith, ap (λ (g : ℕ → ℕ). g s) same);
-        others = λ k m. ap (λ (g : ℕ → ℕ). g k) same;
+        moves = subst (λ (c : ℕ → ℕ). Moves (dialogues T) (only s 0) (only s 0) (holding (dialogues T) c)) (sym same) (moves-not (dialogues T) (only s 0));
       }
 
   -- TAKEN: the lowest free place, by a service that may begin
   module _ (s : ℕ) (s< : s < 16) (may : mayBegin T s ≡ true) where
-    given : gives 128 16 (guaranteeOf T) (limitOf T) (held (T .places)) s ≡ true
+    given : gives (dialogues T) s ≡ true
     unfolding mayBegin
     given = may
 
     pub lowest-there : lowestFree T < 128
-    lowest-there = free-there T f (gives-room 128 16 (guaranteeOf T) (limitOf T) (held (T .places)) shares sound s s< given)
+    lowest-there = free-there T f (gives-room (dialogues T) sound s s< given)
 
     pub moved-taken : (x : Place) → FinePlace x → (x .control .state ≡ 0 → ⊥) → x .control .service ≡ s → Moved T s 1 0 (withPlace T (lowestFree T) x)
     moved-taken x g n e =
         let p : ℕ = lowestFree T in
         let h : p < 128 = lowest-there in
         let c : ℕ → ℕ = held (T .places) in
-        let after : held (withPlace T p x .places) ≡ but c s (suc (c s)) = held-taken T f p h x s (free-is (placeAt T p) (lowest-is-free T f h)) n e in
-        record {
-          fine = fine-with T f p h x g
-              (kept-by p x (but c s (suc (c s))) after (take-sound 128 16 (guaranteeOf T) (limitOf T) c shares sound s s< given));
-          guarantees = refl;
-          limits = refl;
-          own = omega (arith, ap (λ (g : ℕ → ℕ). g s) after, but-same c s (suc (c s)));
-          others = λ k m. ap (λ (g : ℕ → ℕ). g k) after ∙ but-other c s (suc (c s)) k m;
-        }
+        moved-by p h x g s 1 0 (suc (c s)) (held-taken T f p h x s (free-is (placeAt T p) (lowest-is-free T f h)) n e)
+        (take-sound (dialogues T) sound s s< given) (omega arith)

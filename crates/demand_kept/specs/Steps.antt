@@ -2,11 +2,11 @@
 -- what it began less what it ended. Assumes nothing.
 use mathlib.Core.Path.{_≡_, refl, sym, ap, subst, _∙_}
 use mathlib.Core.Bool.{Bool, true, false, cond}
-use mathlib.Core.List.{List, [], _∷_}
+use mathlib.Core.List.{List, _∷_}
 use Prim.Native.Nat.{ℕ, zero, suc, _+_, _<_}
 use native.Mathlib.Omega.{arith}
 use lib.ListN.{length, drop, replicate, length-take, length-drop}
-use Rattle.laws.specs.If.{ifEq, eq, ne, by-lt, by-eq, by-b, was-eq, was-yes, true-false}
+use Rattle.laws.specs.If.{by-lt, by-eq, by-b, was-eq, was-yes, true-false}
 use Rattle.laws.specs.Lists.{pad, zeros}
 use Rattle.paper.specs.declared.Message.{Message}
 use Rattle.paper.specs.declared.Control.{Control}
@@ -17,7 +17,7 @@ use Rattle.paper.specs.Messages.{messageOf, isSound, beginTag, continueTag, noR
 use Rattle.paper.specs.Kinds.{rowUni, rowBegin, rowContinue, rowEnd, rowUserAbort, rowAbort}
 use Rattle.paper.specs.Rows.{allActed, componentRows, dialogueRow, cancelRow}
 use Rattle.paper.specs.Dialogues.{Place, Request, Invoke, Result, Error, UserReject, Cancel, Begin, Continue, End, Prearranged, Abort, Unidirectional, Timeout, RejectTimeout, NoReaction, Done, emptyControl, begun, freed, withControl, timeoutRows, unlessRefused, refusal, does, request}
-use Rattle.paper.specs.Calls.{Table, placeAt, withPlace, lowestFree, Out, stored, requested, opened, octetsAt, destinationNumber, assigned, faultedAt, faulted, itemsOf, uniReceived, begunControl, beginAt, beginReceived, continuedControl, continueReceived, endReceived, abortReceived, toDialogue, soundReceived, received, receivedIf, Call, Open, OnDialogue, Receive, refuse, ofService, step, held}
+use Rattle.paper.specs.Calls.{Table, placeAt, withPlace, lowestFree, Out, stored, requested, opened, octetsAt, destinationNumber, assigned, faultedAt, faulted, itemsOf, uniReceived, begunControl, beginAt, beginReceived, continuedControl, continueReceived, endReceived, abortReceived, toDialogue, soundReceived, received, receivedIf, Call, Open, OnDialogue, Receive, refuse, ofService, step}
 use Rattle.paper.specs.Rules.{hasPeer}
 use Rattle.reading_messages.specs.Bounds.{MessageIn, message-in}
 use Rattle.table_laws.specs.Fine.{Octets, FinePeer, FineControl, Fine}
@@ -316,17 +316,3 @@ module _ (T : Table) (f : Fine T) where
   -- keeps the table rules
   pub step-kept : (c : Call) → WellFormed c → Fine (step T c .table)
   step-kept c w = step-left c w .fine
-
-  -- and what a service holds more or less is what it began and ended by the call, if it made it
-  pub step-counted : (c : Call) → WellFormed c → (k : ℕ)
-      → ifEq (serviceOf c) k (begunBy c (toldBy (step T c))) 0 + held (T .places) k ≡ ifEq (serviceOf c) k (endedBy c (toldBy (step T c))) 0 + held (step T c .table .places) k
-  step-counted c w k =
-      let l = step-left c w in
-      let b : ℕ = begunBy c (toldBy (step T c)) in
-      let e : ℕ = endedBy c (toldBy (step T c)) in
-      by-eq {A = ℕ} (serviceOf c) k 0 0 refl
-      (λ a _. omega (arith, eq {r = b} (serviceOf c) k b 0 a refl, eq {r = e} (serviceOf c) k e 0 a refl, own k (sym a) l))
-      (λ a _. omega (arith, ne {r = 0} (serviceOf c) k b 0 a refl, ne {r = 0} (serviceOf c) k e 0 a refl, l .others k (λ z. a (sym z))))
-    where
-      own : (j : ℕ) → j ≡ serviceOf c → Left T c (step T c) → begunBy c (toldBy (step T c)) + held (T .places) j ≡ endedBy c (toldBy (step T c)) + held (step T c .table .places) j
-      own j q l = subst (λ (i : ℕ). begunBy c (toldBy (step T c)) + held (T .places) i ≡ endedBy c (toldBy (step T c)) + held (step T c .table .places) i) (sym q) (l .own)

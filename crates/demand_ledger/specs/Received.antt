@@ -5,23 +5,23 @@ use mathlib.Core.Option.{Option, none, some}
 use mathlib.Core.List.{List, [], _∷_, _++_}
 use Prim.Native.Nat.{ℕ, _≤_, _<_}
 use native.Mathlib.Omega.{arith}
-use lib.ListN.{length, getD, take}
+use lib.ListN.{length, take}
 use Rattle.laws.specs.If.{ifEq, ifB, lt, ge, eq, ne, yes, no, by-eq, by-b, was-eq, was-yes, true-false}
 use Rattle.laws.specs.Lists.{pad}
 use Rattle.paper.specs.declared.Message.{Message}
 use Rattle.paper.specs.declared.Invocation.{Invocation}
 use Rattle.paper.specs.declared.Control.{Control}
 use Rattle.paper.specs.declared.Row.{Row}
-use Rattle.paper.specs.Sizes.{placeOf, localID}
+use Rattle.paper.specs.Sizes.{placesInAll, services, placeOf, localID}
 use Rattle.paper.specs.Problems.{noProblem}
 use Rattle.paper.specs.Messages.{messageOf, isSound, noRun, uniTag, beginTag, continueTag}
 use Rattle.paper.specs.Writing.{Written, joined, causeAbortOctets}
 use Rattle.paper.specs.Portions.{Spoken}
 use Rattle.paper.specs.Kinds.{rowUni, rowBegin, rowContinue, rowEnd, rowUserAbort, rowAbort}
 use Rattle.paper.specs.Rows.{dialogueRow, componentRows, allActed}
-use Rattle.paper.specs.Shares.{gives}
+use Rattle.paper.specs.Shares.{shared, gives}
 use Rattle.paper.specs.Dialogues.{Place, freed, peerOf, withControl}
-use Rattle.paper.specs.Calls.{Table, Out, placeAt, withPlace, limitOf, held, mayBegin, lowestFree, owns, octetsAt, destinationNumber, assigned, faultedAt, faulted, itemsOf, uniReceived, begunControl, beginAt, beginReceived, continuedControl, continueReceived, endReceived, abortReceived, toDialogue, soundReceived, received}
+use Rattle.paper.specs.Calls.{Table, Out, placeAt, withPlace, held, mayBegin, lowestFree, owns, octetsAt, destinationNumber, assigned, faultedAt, faulted, itemsOf, uniReceived, begunControl, beginAt, beginReceived, continuedControl, continueReceived, endReceived, abortReceived, toDialogue, soundReceived, received}
 use Rattle.paper.specs.Contents.{Wire, contentOf}
 use Rattle.paper.specs.Counting.{isEnded}
 use Rattle.paper.specs.Asked.{heardAll}
@@ -95,9 +95,9 @@ module _ (T : Table) (f : Fine T) (L : Ledger) (g : Agrees T L) (service : ℕ) 
   may-is : mayBegin T service ≡ mayBeginIn L service
   unfolding mayBegin mayBeginIn
   may-is =
-      ap (λ (k : List ℕ). gives 128 16 (λ i. getD k i 0) (limitOf T) (held (T .places)) service) (g .guarantees)
-      ∙ ap (λ (k : List ℕ). gives 128 16 (λ i. getD (L .guarantees) i 0) (λ i. getD k i 0) (held (T .places)) service) (g .limits)
-      ∙ ap (λ (k : ℕ → ℕ). gives 128 16 (λ i. getD (L .guarantees) i 0) (λ i. getD (L .limits) i 0) k service) (fun-ext (λ i. sym (g .counts i)))
+      ap (λ (k : List ℕ). gives (shared placesInAll services k (T .limits) (held (T .places))) service) (g .guarantees)
+      ∙ ap (λ (k : List ℕ). gives (shared placesInAll services (L .guarantees) k (held (T .places))) service) (g .limits)
+      ∙ ap (λ (k : ℕ → ℕ). gives (shared placesInAll services (L .guarantees) (L .limits) k) service) (fun-ext (λ i. sym (g .counts i)))
 
   -- THE ADDRESSEE: an assigned destination's entry
   pub record Assigned (e : Entry) : Type 0 where

@@ -15,7 +15,7 @@ use Rattle.laws.specs.If.{ifEq, ifB, eq, ne, yes, no, by-eq}
 use Rattle.paper.specs.declared.Invocation.{Invocation}
 use Rattle.paper.specs.declared.Row.{Row}
 use Rattle.paper.specs.Sizes.{placesInAll, services, placeOf, turnOf, idOctets}
-use Rattle.paper.specs.Shares.{gives, others, free}
+use Rattle.paper.specs.Shares.{Resource, shared, gives, others, free}
 use Rattle.paper.specs.Messages.{messageOf, isSound, uniTag, beginTag}
 use Rattle.paper.specs.Kinds.{rowBegin}
 use Rattle.paper.specs.Writing.{causeAbortOctets}
@@ -24,7 +24,7 @@ use Rattle.paper.specs.Invocations.{sent, wait, invocationOf, stateOf}
 use Rattle.paper.specs.Asked.{oursOf}
 use Rattle.paper.specs.Dialogues.{Request, dialogueOpen, dialogueSent, dialogueReceived, dialogueActive, needs, refusal}
 use Rattle.paper.specs.Dialogues.Request.{Cancel, RejectTimeout}
-use Rattle.paper.specs.Calls.{Table, Call, Out, placeAt, owns, guaranteeOf, limitOf, held, mayBegin, lowestFree, shows, octetsAt, numberAt, beginAt, step, freshTable}
+use Rattle.paper.specs.Calls.{Table, Call, Out, placeAt, owns, held, dialogues as dialoguesOf, mayBegin, lowestFree, shows, octetsAt, numberAt, beginAt, step, freshTable}
 use Rattle.paper.specs.Calls.Call.{OnDialogue, Receive}
 use Rattle.paper.specs.Layout.{encode, view}
 use Rattle.paper.specs.Rules.{rules}
@@ -38,9 +38,11 @@ use Rattle.table_laws.specs.Whole.{view-encode}
 use Rattle.table_laws.specs.Ready.{Ready}
 use Rattle.demand_kept.specs.Steps.{WellFormed}
 use Rattle.demand_kept.specs.Tables.{outcome-ready, ready-rules}
-use Rattle.table_shares.specs.Share.{Shares, Sound, below-given, refused-at-limit, refused-full, refused-why}
-use Rattle.demand_kept.specs.Shared.{shares as fine-shares, sound as fine-sound}
-use Rattle.demand_kept.specs.Fresh.{fresh-fine, fresh-none}
+use Rattle.table_shares.specs.Share.{below-given}
+use Rattle.table_shares.specs.Counting.{Moves}
+use Rattle.table_shares.specs.Counting as counting
+use Rattle.demand_kept.specs.Shared.{sound}
+use Rattle.demand_kept.specs.Fresh.{fresh-is, fresh-fine}
 use Rattle.demand_ledger.specs.Agrees.{Holds, At, Agrees, holds-owns, unknown-not-owned}
 use Rattle.demand_ledger.specs.Steps.{fresh-agrees}
 use Rattle.demand_ledger.specs.Homes.{Comes, rowFor, id-back, number-is, addressee-is, comes-home, comes-nowhere}
@@ -266,75 +268,45 @@ module _ (t g l : List ℕ) (fresh : freshOutcome t g l .answer ≡ 0) (ms : Lis
       let b = begun-told t g l fresh in
       subst (λ (x : List ℕ). Reached x (freshTable g l) ms) (sym (b .table)) (history (freshTable g l) (fresh-fine g l (b .guarantees) (b .limits) (b .fit)) ms o)
 
+  -- the places as the fresh table shares them, as the calls tell them, and as the table has them
+  abbrev fresh-places : Resource
+  fresh-places = shared placesInAll services g l (λ s. 0)
+
+  abbrev pub places : Resource
+  places = shared placesInAll services g l dialogues
+
+  abbrev there : Resource
+  there = dialoguesOf (reached .to)
+
+  moves : Moves fresh-places (λ s. begunOf s start ms) (λ s. endedOf s start ms) there
+  moves = subst (λ (R : Resource). Moves R (λ s. begunOf s start ms) (λ s. endedOf s start ms) there) (fresh-is g l) (reached .moves)
+
   -- the count is what the table holds
   pub counted : (s : ℕ) → (begunOf s start ms ≡ endedOf s start ms + dialogues s) × (dialogues s ≡ held (reached .to .places) s)
-  counted s =
-      let b = begun-told t g l fresh in
-      let z : held (freshTable g l .places) s ≡ 0 = fresh-none g l (b .guarantees) (b .limits) (b .fit) s in
-      (omega (arith, reached .counts s, z), omega (arith, reached .counts s, z))
-
-  counts : dialogues ≡ held (reached .to .places)
-  counts = λ i s. counted s .1 i
-
-  -- the shares are those of the fresh table
-  guarantees-are : guaranteeOf (reached .to) ≡ guarantee
-  unfolding freshTable
-  guarantees-are = ap {B = ℕ → ℕ} (λ (x : List ℕ). λ (s : ℕ). getD x s 0) (reached .shares .0)
-
-  limits-are : limitOf (reached .to) ≡ limit
-  unfolding freshTable
-  limits-are = ap {B = ℕ → ℕ} (λ (x : List ℕ). λ (s : ℕ). getD x s 0) (reached .shares .1)
-
-  shares : Shares placesInAll services guarantee limit
-  shares =
-      subst (λ (x : ℕ → ℕ). Shares placesInAll services x limit) guarantees-are
-      (subst (Shares placesInAll services (guaranteeOf (reached .to))) limits-are (fine-shares (reached .to) (reached .fine)))
-
-  sound : Sound placesInAll services guarantee limit dialogues
-  sound =
-      subst (λ (x : ℕ → ℕ). Sound placesInAll services x limit dialogues) guarantees-are
-      (subst (λ (x : ℕ → ℕ). Sound placesInAll services (guaranteeOf (reached .to)) x dialogues) limits-are
-      (subst (Sound placesInAll services (guaranteeOf (reached .to)) (limitOf (reached .to))) (sym counts) (fine-sound (reached .to) (reached .fine))))
-
-  -- the rule that decides: on what the calls tell
-  rule : (s : ℕ) → mayBegin (reached .to) s ≡ gives placesInAll services guarantee limit dialogues s
-  unfolding mayBegin
-  rule s =
-      ap (λ (x : ℕ → ℕ). gives placesInAll services x (limitOf (reached .to)) (held (reached .to .places)) s) guarantees-are
-      ∙ ap (λ (x : ℕ → ℕ). gives placesInAll services guarantee x (held (reached .to .places)) s) limits-are
-      ∙ ap (λ (x : ℕ → ℕ). gives placesInAll services guarantee limit x s) (sym counts)
+  counted = counting.counted-held fresh-places there _ _ (λ s. refl) moves
 
   -- what the next open is answered
   pub answer : ℕ → ℕ
   answer s = gave (after start ms) (asks s) .answer
 
-  answered : (s : ℕ) → s < services → answer s ≡ ifB (gives placesInAll services guarantee limit dialogues s) 0 7
-  unfolding answer
-  answered s h =
-      ap (λ (t : List ℕ). gave t (asks s) .answer) (reached .table) ∙ open-answer (reached .to) (reached .fine) s h ∙ ap (λ (x : Bool). ifB x 0 7) (rule s)
+  answered : (s : ℕ) → s < services → answer s ≡ ifB (gives there s) 0 7
+  unfolding answer mayBegin
+  answered s h = ap (λ (t : List ℕ). gave t (asks s) .answer) (reached .table) ∙ open-answer (reached .to) (reached .fine) s h
 
   -- DEMAND 3: "no service has more dialogues than its limit"
   pub within-limit : (s : ℕ) → s < services → dialogues s ≤ limit s
-  within-limit s h = sound .limits s h
+  within-limit = counting.within-limit fresh-places there _ _ (λ s. refl) moves (sound (reached .to) (reached .fine))
 
   -- "a service below its guarantee is never refused a place"
   pub never-refused : (s : ℕ) → s < services → dialogues s < guarantee s → answer s ≡ 0
-  never-refused s h q = answered s h ∙ sym (yes _ _ _ (below-given placesInAll services guarantee limit dialogues s q) refl)
+  never-refused s h = counting.never-refused fresh-places there _ _ (λ s. refl) moves s 0 7 (answered s h)
 
   -- "one at or above it is refused exactly when it is at its limit, or when the free places equal the other services' unused guarantees"
-  pub refused-then : (s : ℕ) → s < services → guarantee s ≤ dialogues s
-      → (dialogues s ≡ limit s) ⊎ (free placesInAll services dialogues ≡ others services guarantee dialogues s) → answer s ≡ 7
-  refused-then s h q (inl e) = answered s h ∙ sym (no _ _ _ (refused-at-limit placesInAll services guarantee limit dialogues s q e) refl)
-  refused-then s h q (inr e) = answered s h ∙ sym (no _ _ _ (refused-full placesInAll services guarantee limit dialogues s q e) refl)
+  pub refused-then : (s : ℕ) → s < services → guarantee s ≤ dialogues s → (dialogues s ≡ limit s) ⊎ (free places ≡ others places s) → answer s ≡ 7
+  refused-then s h = counting.refused-then fresh-places there _ _ (λ s. refl) moves s 0 7 (answered s h)
 
-  pub refused-only : (s : ℕ) → s < services → guarantee s ≤ dialogues s → answer s ≡ 7
-      → (dialogues s ≡ limit s) ⊎ (free placesInAll services dialogues ≡ others services guarantee dialogues s)
-  refused-only s h q e = go (gives placesInAll services guarantee limit dialogues s) refl
-    where
-      go : (x : Bool) → gives placesInAll services guarantee limit dialogues s ≡ x
-          → (dialogues s ≡ limit s) ⊎ (free placesInAll services dialogues ≡ others services guarantee dialogues s)
-      go true z = let w : _≡_ {A = ℕ} 7 0 = sym e ∙ answered s h ∙ sym (yes _ _ _ z refl) in absurd (omega arith)
-      go false z = refused-why placesInAll services guarantee limit dialogues s q z
+  pub refused-only : (s : ℕ) → s < services → guarantee s ≤ dialogues s → answer s ≡ 7 → (dialogues s ≡ limit s) ⊎ (free places ≡ others places s)
+  refused-only s h = counting.refused-only fresh-places there _ _ (λ s. refl) moves s 0 7 (answered s h) (λ e. omega arith)
 
   -- THE SAME FOR A PARTNER'S BEGIN: any sound one, of 1 to 512 octets, with spaces of the right sizes
   module _ (s : ℕ) (h : s < services) (msg rows space : List ℕ) (octets : Octets msg) (wide : 4096 ≤ length rows) (long : 272 ≤ length space) (some-octets : 0 < length msg) (few : length msg ≤ 512)
@@ -359,14 +331,15 @@ module _ (t g l : List ℕ) (fresh : freshOutcome t g l .answer ≡ 0) (ms : Lis
     reply-is : reply ≡ given (lentWith (reached .to) begins) (step (reached .to) (Receive s msg))
     reply-is = ap (λ (x : List ℕ). gave x begins) (reached .table) ∙ gave-done (reached .to) (reached .fine) begins begins-wide replies
 
-    by-rule : (b : Bool) → gives placesInAll services guarantee limit dialogues s ≡ b
+    by-rule : (b : Bool) → gives there s ≡ b
         → step (reached .to) (Receive s msg) ≡ ifB b (beginAt (reached .to) s (lowestFree (reached .to)) msg (messageOf msg)) (shows [] (causeAbortOctets asker 4) (reached .to))
+    unfolding mayBegin
     by-rule b e =
         begin-step (reached .to) s msg h some-octets few fine begin
-        ∙ ap (λ (x : Bool). ifB x (beginAt (reached .to) s (lowestFree (reached .to)) msg (messageOf msg)) (shows [] (causeAbortOctets asker 4) (reached .to))) (rule s ∙ e)
+        ∙ ap (λ (x : Bool). ifB x (beginAt (reached .to) s (lowestFree (reached .to)) msg (messageOf msg)) (shows [] (causeAbortOctets asker 4) (reached .to))) e
 
     -- where the rule gives, its first row is BEGIN, and nothing is sent
-    given-begins : gives placesInAll services guarantee limit dialogues s ≡ true → (rowKind (told reply .rows) ≡ rowBegin) × (contentOf (messageOut reply) ≡ Wire.Nothing)
+    given-begins : gives there s ≡ true → (rowKind (told reply .rows) ≡ rowBegin) × (contentOf (messageOut reply) ≡ Wire.Nothing)
     unfolding beginAt
     given-begins e =
         let is : step (reached .to) (Receive s msg) ≡ beginAt (reached .to) s (lowestFree (reached .to)) msg (messageOf msg) = by-rule true e ∙ sym (yes true _ _ refl refl) in (
@@ -376,7 +349,7 @@ module _ (t g l : List ℕ) (fresh : freshOutcome t g l .answer ≡ 0) (ms : Lis
         )
 
     -- else it has no row, and an Abort with cause 4 goes to its originating ID
-    refused-aborts : gives placesInAll services guarantee limit dialogues s ≡ false → contentOf (messageOut reply) ≡ aborting asker [] Spoken.Silent 4
+    refused-aborts : gives there s ≡ false → contentOf (messageOut reply) ≡ aborting asker [] Spoken.Silent 4
     refused-aborts e =
         let is : step (reached .to) (Receive s msg) ≡ shows [] (causeAbortOctets asker 4) (reached .to) = by-rule false e ∙ sym (no false _ _ refl refl) in
         let n : length asker ≡ messageOf msg .origin .length = asker-length in
@@ -388,20 +361,22 @@ module _ (t g l : List ℕ) (fresh : freshOutcome t g l .answer ≡ 0) (ms : Lis
         asker-length : length asker ≡ messageOf msg .origin .length
         asker-length = simp (length-take, length-drop) (omega (arith, message-in msg (messageOf msg) refl .origin .lies))
 
+    decided : contentOf (messageOut reply) ≡ ifB (gives there s) Wire.Nothing (aborting asker [] Spoken.Silent 4)
+    decided = go (gives there s) refl
+      where
+        go : (b : Bool) → gives there s ≡ b → contentOf (messageOut reply) ≡ ifB (gives there s) Wire.Nothing (aborting asker [] Spoken.Silent 4)
+        go true e = yes _ _ _ e (given-begins e .1)
+        go false e = no _ _ _ e (refused-aborts e)
+
     -- "a service below its guarantee is never refused a place"
     pub begin-never-refused : dialogues s < guarantee s → (rowKind (told reply .rows) ≡ rowBegin) × (contentOf (messageOut reply) ≡ Wire.Nothing)
-    begin-never-refused q = given-begins (below-given placesInAll services guarantee limit dialogues s q)
+    begin-never-refused q =
+        given-begins (sym (ap (λ (R : Resource). gives R s) (counting.counted-is fresh-places there _ _ (λ s. refl) moves)) ∙ below-given places s q)
 
     -- "one at or above it is refused exactly when": said on the Abort in the reply
     pub begin-refused-exactly : guarantee s ≤ dialogues s
-        → (contentOf (messageOut reply) ≡ aborting asker [] Spoken.Silent 4) ↔ ((dialogues s ≡ limit s) ⊎ (free placesInAll services dialogues ≡ others services guarantee dialogues s))
-    begin-refused-exactly q = (λ c. go c (gives placesInAll services guarantee limit dialogues s) refl, back)
-      where
-        go : contentOf (messageOut reply) ≡ aborting asker [] Spoken.Silent 4 → (b : Bool) → gives placesInAll services guarantee limit dialogues s ≡ b
-            → (dialogues s ≡ limit s) ⊎ (free placesInAll services dialogues ≡ others services guarantee dialogues s)
-        go c true z = let w : Wire.Nothing ≡ aborting asker [] Spoken.Silent 4 = sym (given-begins z .1) ∙ c in absurd (let y : _≡_ {A = ℕ} 0 1 = cc in omega arith)
-        go c false z = refused-why placesInAll services guarantee limit dialogues s q z
-
-        back : (dialogues s ≡ limit s) ⊎ (free placesInAll services dialogues ≡ others services guarantee dialogues s) → contentOf (messageOut reply) ≡ aborting asker [] Spoken.Silent 4
-        back (inl e) = refused-aborts (refused-at-limit placesInAll services guarantee limit dialogues s q e)
-        back (inr e) = refused-aborts (refused-full placesInAll services guarantee limit dialogues s q e)
+        → (contentOf (messageOut reply) ≡ aborting asker [] Spoken.Silent 4) ↔ ((dialogues s ≡ limit s) ⊎ (free places ≡ others places s))
+    begin-refused-exactly q = (
+      counting.refused-only fresh-places there _ _ (λ s. refl) moves s Wire.Nothing (aborting asker [] Spoken.Silent 4) decided (λ w. let y : _≡_ {A = ℕ} 0 1 = cc in absurd (omega arith)) q,
+      counting.refused-then fresh-places there _ _ (λ s. refl) moves s Wire.Nothing (aborting asker [] Spoken.Silent 4) decided q,
+    )

@@ -1,25 +1,27 @@
 -- HISTORIES OF CALLS, at octets: what a host that hands the table on unaltered sees. Assumes nothing.
 use mathlib.Core.Path.{_≡_, refl, sym, ap, subst, _∙_}
-use mathlib.Core.List.{List, [], _∷_}
+use mathlib.Core.List.{List, []}
 use mathlib.Core.Logic.{_⊎_, inl, inr}
-use Prim.Native.Nat.{ℕ, zero, suc, _+_, _*_, _≤_}
+use Prim.Native.Nat.{ℕ, zero, suc, _*_, _≤_}
 use native.Mathlib.Omega.{arith}
 use lib.ListN.{length}
-use Rattle.laws.specs.If.{ifEq, eq, ne}
+use Rattle.laws.specs.If.{eq, ne}
 use Rattle.paper.specs.declared.Row.{Row}
 use Rattle.paper.specs.Sizes.{services, placeOf}
 use Rattle.paper.specs.Rows.{rowsAt}
 use Rattle.paper.specs.Dialogues.{Place, Request, refusal, does, request, unlessRefused}
 use Rattle.paper.specs.Dialogues.Request.{Invoke, Result, Error, UserReject, Cancel, Begin, Continue, End, Prearranged, Abort, Unidirectional, Timeout, RejectTimeout, NoReaction}
-use Rattle.paper.specs.Calls.{Table, Call, Out, placeAt, held, stored, requested, opened, step}
+use Rattle.paper.specs.Calls.{Table, Call, Out, placeAt, dialogues, stored, requested, opened, step}
 use Rattle.paper.specs.Calls.Call.{Open, OnDialogue, Receive}
 use Rattle.paper.specs.Layout.{encode, view}
 use Rattle.paper.specs.Outcome.{Lent, Outcome, spacesOf, spacesFor, standing, given, shown, refusedBy, outcome}
 use Rattle.table_laws.specs.Fine.{Fine}
 use Rattle.table_laws.specs.Whole.{view-encode}
+use Rattle.table_laws.specs.Ready.{Ready, encode-ready}
+use Rattle.table_shares.specs.Counting.{only, Moves, moves-not, led, over, Each, over-moves}
 use Rattle.demand_kept.specs.Leaves.{whether-lt, whether-b}
 use Rattle.paper.specs.Counting.{Notice, toldBy, serviceOf, begunBy, endedBy}
-use Rattle.demand_kept.specs.Steps.{WellFormed, Left, step-left, step-counted}
+use Rattle.demand_kept.specs.Steps.{WellFormed, Left, step-left}
 use Rattle.demands.specs.Rows.{rows-back}
 use Rattle.demands.specs.Fits.{Fit, step-fit}
 use Rattle.demands.specs.Stands.{stands}
@@ -35,31 +37,35 @@ abbrev pub gave : List ℕ → Made → Outcome
 gave t m = outcome (record { table = t; rows = m .rows; space = m .space }) (m .call)
 
 -- the table handed on unaltered from call to call
+abbrev pub handed : List ℕ → Made → List ℕ
+handed t m = gave t m .lent .table
+
 abbrev pub after : List ℕ → List Made → List ℕ
-after t [] = t
-after t (m ∷ ms) = after (gave t m .lent .table) ms
+after t ms = led handed t ms
 
 -- WHAT A HOST SEES of a call: its answer, the dialogue, and the rows that it reads from the row space
 abbrev pub told : Outcome → Notice
 told o = record { answer = o .answer; dialogue = o .dialogue; rows = rowsAt (o .rows) 0 (o .lent .rows) }
 
--- COUNTED FROM THE CALLS ALONE (crates/paper/specs/Counting.antt): of one service, over a history
+-- COUNTED FROM THE CALLS ALONE (crates/paper/specs/Counting.antt): of each service by one call, and of one over a history
+abbrev pub begins : List ℕ → Made → ℕ → ℕ
+begins t m = only (serviceOf (m .call)) (begunBy (m .call) (told (gave t m)))
+
+abbrev pub ends : List ℕ → Made → ℕ → ℕ
+ends t m = only (serviceOf (m .call)) (endedBy (m .call) (told (gave t m)))
+
 abbrev pub begunOf : ℕ → List ℕ → List Made → ℕ
-begunOf s t [] = 0
-begunOf s t (m ∷ ms) = ifEq (serviceOf (m .call)) s (begunBy (m .call) (told (gave t m))) 0 + begunOf s (gave t m .lent .table) ms
+begunOf s t ms = over handed begins t ms s
 
 abbrev pub endedOf : ℕ → List ℕ → List Made → ℕ
-endedOf s t [] = 0
-endedOf s t (m ∷ ms) = ifEq (serviceOf (m .call)) s (endedBy (m .call) (told (gave t m))) 0 + endedOf s (gave t m .lent .table) ms
+endedOf s t ms = over handed ends t ms s
 
--- ONE CALL: the table afterwards is a table that keeps the rules, and the count moves by what the call begins and ends
+-- ONE CALL: the table afterwards is a table that keeps the rules, and what is held moves by what the call begins and ends
 pub record Next (T : Table) (m : Made) : Type 0 where
   pub to : Table
   pub fine : Fine to
-  pub table : gave (encode T) m .lent .table ≡ encode to
-  pub shares : (to .guarantees ≡ T .guarantees) × (to .limits ≡ T .limits)
-  pub counts : (s : ℕ) → ifEq (serviceOf (m .call)) s (begunBy (m .call) (told (gave (encode T) m))) 0 + held (T .places) s
-      ≡ ifEq (serviceOf (m .call)) s (endedBy (m .call) (told (gave (encode T) m))) 0 + held (to .places) s
+  pub table : handed (encode T) m ≡ encode to
+  pub moves : Moves (dialogues T) (begins (encode T) m) (ends (encode T) m) (dialogues to)
 
 -- a refusal begins and ends nothing
 refused-none : (c : Call) (n : ℕ) (l : Lent) → begunBy c (told (refusedBy (suc n) l)) ≡ endedBy c (told (refusedBy (suc n) l))
@@ -145,16 +151,7 @@ rows-fit T f l (OnDialogue service dialogue r) o e =
 
 -- calls as a host can make them: octets are below 256, IDs are octets
 abbrev pub AllFormed : List Made → Type 0
-AllFormed [] = Unit
-AllFormed (m ∷ ms) = WellFormed (m .call) × AllFormed ms
-
--- WHERE A HISTORY LEADS: a table that keeps the rules, with the same shares; begun less ended is what it holds
-pub record Reached (t : List ℕ) (T : Table) (ms : List Made) : Type 0 where
-  pub to : Table
-  pub fine : Fine to
-  pub table : after t ms ≡ encode to
-  pub shares : (to .guarantees ≡ T .guarantees) × (to .limits ≡ T .limits)
-  pub counts : (s : ℕ) → begunOf s t ms + held (T .places) s ≡ endedOf s t ms + held (to .places) s
+AllFormed ms = Each (λ m. WellFormed (m .call)) ms
 
 pub next : (T : Table) → Fine T → (m : Made) → WellFormed (m .call) → Next T m
 unfolding outcome
@@ -166,64 +163,67 @@ next T f m o = stand (standing l (spacesFor (m .call))) refl
     same : step (view (encode T)) (m .call) ≡ step T (m .call)
     same = ap (λ (U : Table). step U (m .call)) (view-encode T f)
 
-    -- an outcome, and what follows from it
-    by : (g : Outcome) → gave (encode T) m ≡ g → (U : Table) → Fine U → g .lent .table ≡ encode U → (U .guarantees ≡ T .guarantees) × (U .limits ≡ T .limits)
-        → ((s : ℕ) → ifEq (serviceOf (m .call)) s (begunBy (m .call) (told g)) 0 + held (T .places) s ≡ ifEq (serviceOf (m .call)) s (endedBy (m .call) (told g)) 0 + held (U .places) s)
-        → Next T m
-    by g e U u q v w = record {
+    -- what was told, and the table afterwards
+    MovesBy : Notice → Table → Type 0
+    MovesBy x U = Moves (dialogues T) (only (serviceOf (m .call)) (begunBy (m .call) x)) (only (serviceOf (m .call)) (endedBy (m .call) x)) (dialogues U)
+
+    by : (g : Outcome) → gave (encode T) m ≡ g → (U : Table) → Fine U → g .lent .table ≡ encode U → MovesBy (told g) U → Next T m
+    by g e U u q w = record {
       to = U;
       fine = u;
       table = ap (λ (x : Outcome). x .lent .table) e ∙ q;
-      shares = v;
-      counts = subst (λ (x : Outcome). (s : ℕ) → ifEq (serviceOf (m .call)) s (begunBy (m .call) (told x)) 0 + held (T .places) s ≡ ifEq (serviceOf (m .call)) s (endedBy (m .call) (told x)) 0 + held (U .places) s) (sym e) w;
+      moves = subst (λ (x : Outcome). MovesBy (told x) U) (sym e) w;
     }
 
-    nothing : (n : ℕ) (s : ℕ) → ifEq (serviceOf (m .call)) s (begunBy (m .call) (told (refusedBy (suc n) l))) 0 + held (T .places) s
-        ≡ ifEq (serviceOf (m .call)) s (endedBy (m .call) (told (refusedBy (suc n) l))) 0 + held (T .places) s
-    nothing n s = ap (λ (k : ℕ). ifEq (serviceOf (m .call)) s k 0 + held (T .places) s) (refused-none (m .call) n l)
+    nothing : (n : ℕ) → MovesBy (told (refusedBy (suc n) l)) T
+    nothing n =
+        subst (λ (k : ℕ). Moves (dialogues T) (only (serviceOf (m .call)) k) (only (serviceOf (m .call)) (endedBy (m .call) (told (refusedBy (suc n) l)))) (dialogues T))
+        (sym (refused-none (m .call) n l)) (moves-not (dialogues T) _)
 
-    done : (g : Out) → g ≡ step T (m .call) → g .answer ≡ 0 → standing l (spacesFor (m .call)) ≡ 0 → gave (encode T) m ≡ given l g → Next T m
-    done g e z st w =
-        by (given l g) w (g .table) (subst (λ (x : Out). Fine (x .table)) (sym e) (left .fine)) refl
-        (subst (λ (x : Out). (x .table .guarantees ≡ T .guarantees) × (x .table .limits ≡ T .limits)) (sym e) (left .guarantees, left .limits)) counts
-      where
-        left : Left T (m .call) (step T (m .call))
-        left = step-left T f (m .call) o
-
-        fit : Fit (g .rows)
-        fit = subst (λ (x : Out). Fit (x .rows)) (sym e) (step-fit T f (m .call) o)
-
-        room : 32 * length (g .rows) ≤ length (l .rows)
-        room = subst (λ (x : Out). 32 * length (x .rows) ≤ length (l .rows)) (sym e) (rows-fit T f l (m .call) o st)
-
-        counts : (s : ℕ) → ifEq (serviceOf (m .call)) s (begunBy (m .call) (told (given l g))) 0 + held (T .places) s ≡ ifEq (serviceOf (m .call)) s (endedBy (m .call) (told (given l g))) 0 + held (g .table .places) s
-        counts s =
-            let same : toldBy (step T (m .call)) ≡ told (given l g) = ap toldBy (sym e) ∙ sym (told-given l g z fit room) in
-            subst (λ (x : Notice). ifEq (serviceOf (m .call)) s (begunBy (m .call) x) 0 + held (T .places) s ≡ ifEq (serviceOf (m .call)) s (endedBy (m .call) x) 0 + held (g .table .places) s) same
-            (subst (λ (x : Out). ifEq (serviceOf (m .call)) s (begunBy (m .call) (toldBy (step T (m .call)))) 0 + held (T .places) s ≡ ifEq (serviceOf (m .call)) s (endedBy (m .call) (toldBy (step T (m .call)))) 0 + held (x .table .places) s) (sym e)
-            (step-counted T f (m .call) o s))
+    left : Left T (m .call) (step T (m .call))
+    left = step-left T f (m .call) o
 
     answered : (n : ℕ) → step T (m .call) .answer ≡ n → standing l (spacesFor (m .call)) ≡ 0 → gave (encode T) m ≡ shown 0 l (step T (m .call)) → Next T m
-    answered zero z st w = done (step T (m .call)) refl z st (w ∙ sym (eq _ _ _ _ z refl))
+    answered zero z st w =
+        by (given l (step T (m .call))) (w ∙ sym (eq _ _ _ _ z refl)) (step T (m .call) .table) (left .fine) refl
+        (subst (λ (x : Notice). MovesBy x (step T (m .call) .table)) (sym (told-given l (step T (m .call)) z (step-fit T f (m .call) o) (rows-fit T f l (m .call) o st))) (left .moves))
     answered (suc n) z st w =
-        by (refusedBy (suc n) l) (w ∙ sym (ne _ _ _ _ (λ h. omega (arith, z, h)) (ap (λ (k : ℕ). refusedBy k l) (sym z)))) T f refl (refl, refl) (nothing n)
+        by (refusedBy (suc n) l) (w ∙ sym (ne _ _ _ _ (λ h. omega (arith, z, h)) (ap (λ (k : ℕ). refusedBy k l) (sym z)))) T f refl (nothing n)
 
     stand : (n : ℕ) → standing l (spacesFor (m .call)) ≡ n → Next T m
     stand zero e = answered (step T (m .call) .answer) refl e (ap (λ (k : ℕ). shown k l (step (view (encode T)) (m .call))) e ∙ ap (shown 0 l) same)
-    stand (suc n) e = by (refusedBy (suc n) l) (ap (λ (k : ℕ). shown k l (step (view (encode T)) (m .call))) e) T f refl (refl, refl) (nothing n)
+    stand (suc n) e = by (refusedBy (suc n) l) (ap (λ (k : ℕ). shown k l (step (view (encode T)) (m .call))) e) T f refl (nothing n)
 
--- ANY LIST OF CALLS, wrong ones among them
-pub history : (T : Table) → Fine T → (ms : List Made) → AllFormed ms → Reached (encode T) T ms
-history T f [] o = record { to = T; fine = f; table = refl; shares = (refl, refl); counts = λ s. refl }
-history T f (m ∷ ms) o = on (next T f m (o .0)) (history (next T f m (o .0) .to) (next T f m (o .0) .fine) ms (o .1))
+-- on the octets of any table that keeps the rules
+next-octets : (t : List ℕ) → Ready t → (m : Made) → WellFormed (m .call)
+    → Ready (handed t m) × Moves (dialogues (view t)) (begins t m) (ends t m) (dialogues (view (handed t m)))
+next-octets t r m o = on (next (view t) (r .fine) m o)
   where
-    on : (n : Next T m) → Reached (encode (n .to)) (n .to) ms → Reached (encode T) T (m ∷ ms)
-    on n r = record {
-      to = r .to;
-      fine = r .fine;
-      table = ap (λ (t : List ℕ). after t ms) (n .table) ∙ r .table;
-      shares = (r .shares .0 ∙ n .shares .0, r .shares .1 ∙ n .shares .1);
-      counts = λ s. omega (arith, n .counts s, r .counts s, ap (λ (t : List ℕ). begunOf s t ms) (n .table), ap (λ (t : List ℕ). endedOf s t ms) (n .table));
+    on : Next (view t) m → Ready (handed t m) × Moves (dialogues (view t)) (begins t m) (ends t m) (dialogues (view (handed t m)))
+    on n =
+        let e : handed t m ≡ encode (n .to) = ap (λ (x : List ℕ). handed x m) (sym (r .same)) ∙ n .table in
+        let v : view (handed t m) ≡ n .to = ap view e ∙ view-encode (n .to) (n .fine) in (
+          subst Ready (sym e) (encode-ready (n .to) (n .fine)),
+          subst (λ (x : List ℕ). Moves (dialogues (view t)) (begins x m) (ends x m) (dialogues (view (handed t m)))) (r .same)
+              (subst (λ (U : Table). Moves (dialogues (view t)) (begins (encode (view t)) m) (ends (encode (view t)) m) (dialogues U)) (sym v) (n .moves)),
+        )
+
+-- WHERE A HISTORY LEADS, any list of calls, wrong ones among them: a table that keeps the rules, with the same shares; begun less ended is
+-- what it holds
+pub record Reached (t : List ℕ) (T : Table) (ms : List Made) : Type 0 where
+  pub to : Table
+  pub fine : Fine to
+  pub table : after t ms ≡ encode to
+  pub moves : Moves (dialogues T) (λ s. begunOf s t ms) (λ s. endedOf s t ms) (dialogues to)
+
+pub history : (T : Table) → Fine T → (ms : List Made) → AllFormed ms → Reached (encode T) T ms
+history T f ms o =
+    let h = over-moves handed (λ t. dialogues (view t)) begins ends Ready (λ m. WellFormed (m .call)) next-octets (encode T) (encode-ready T f) ms o in
+    record {
+      to = view (after (encode T) ms);
+      fine = h .0 .fine;
+      table = sym (h .0 .same);
+      moves = subst (λ (U : Table). Moves (dialogues U) (λ s. begunOf s (encode T) ms) (λ s. endedOf s (encode T) ms) (dialogues (view (after (encode T) ms)))) (view-encode T f) (h .1);
     }
 
 -- of one answered 0, the rows of its step

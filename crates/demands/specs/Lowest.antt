@@ -17,7 +17,7 @@ use Rattle.paper.specs.Writing.{invokeOctets, resultOctets, errorOctets, reject
 use Rattle.paper.specs.Portions.{Form, aarq, aare, audt, portionBy}
 use Rattle.paper.specs.Dialogues.{Place, Request, dialogueOpen, dialogueReceived, dialogueActive, isPortion, isBlock, isAbort, ofClass4, overfull, first as firstOf, unplaced, portionRefusal, invokeRefusal, resultRefusal, errorRefusal, rejectRefusal, needs, needsOpen, needsPeer, needsSent, uniRefusal, abortPortion, abortRefusal, refusal, does, request, unlessRefused}
 use Rattle.paper.specs.Dialogues.Request.{Invoke, Result, Error, UserReject, Cancel, Begin, Continue, End, Prearranged, Abort, Unidirectional, Timeout, RejectTimeout, NoReaction}
-use Rattle.paper.specs.Shares.{limitFits, sharesFit}
+use Rattle.paper.specs.Shares.{Resource, shared, limitFits, sharesFit}
 use Rattle.paper.specs.Calls.{Table, Call, Out, placeAt, stored, requested, opened, receivedIf, step}
 use Rattle.paper.specs.Calls.Call.{Open, OnDialogue, Receive}
 use Rattle.paper.specs.Messages.{messageOf}
@@ -334,20 +334,20 @@ leb-not a b = go (ltb b a) refl
     go true e = lt-leb a b (ltb-true b a e)
     go false e = le-leb a b (ltb-false b a e)
 
-module _ (N : ℕ) (g l : ℕ → ℕ) where
+module _ (R : Resource) where
   abbrev above : ℕ → Bool
-  above n = some (λ k. ltb (l k) (g k)) n
+  above n = some (λ k. ltb (R .limit k) (R .guarantee k)) n
 
   abbrev wide : ℕ → Bool
-  wide n = some (λ k. ltb N (l k)) n
+  wide n = some (λ k. ltb (R .size) (R .limit k)) n
 
-  limits-fit : (n : ℕ) → all (limitFits N g l) n ≡ not (above n || wide n)
+  limits-fit : (n : ℕ) → all (limitFits R) n ≡ not (above n || wide n)
   unfolding ifB ifLt
   limits-fit zero = refl
   limits-fit (suc n) =
-      ap (λ (t : Bool). cond t (limitFits N g l n) false) (limits-fit n)
-      ∙ ap (λ (t : Bool). cond (not (above n || wide n)) (cond (ltb (l n) (g n)) false t) false) (leb-not (l n) N)
-      ∙ go (above n) (wide n) (ltb (l n) (g n)) (ltb N (l n))
+      ap (λ (t : Bool). cond t (limitFits R n) false) (limits-fit n)
+      ∙ ap (λ (t : Bool). cond (not (above n || wide n)) (cond (ltb (R .limit n) (R .guarantee n)) false t) false) (leb-not (R .limit n) (R .size))
+      ∙ go (above n) (wide n) (ltb (R .limit n) (R .guarantee n)) (ltb (R .size) (R .limit n))
     where
       go : (a b c d : Bool) → cond (not (a || b)) (cond c false (not d)) false ≡ not ((a || c) || (b || d))
       go true b c d = refl
@@ -356,13 +356,15 @@ module _ (N : ℕ) (g l : ℕ → ℕ) where
       go false false true d = refl
       go false false false d = refl
 
-  shares-first : (n : ℕ)
-      → ifB {A = ℕ} (sharesFit N n g l) 0 13 ≡ ifB (above n) 13 (ifB (wide n) 13 (ifB (ltb N (sum g n)) 13 0))
+  abbrev n : ℕ
+  n = R .services
+
+  shares-first : ifB {A = ℕ} (sharesFit R) 0 13 ≡ ifB (above n) 13 (ifB (wide n) 13 (ifB (ltb (R .size) (sum (R .guarantee) n)) 13 0))
   unfolding ifB sharesFit
-  shares-first n =
-      ap (λ (t : Bool). cond {A = ℕ} (cond t (leb (sum g n) N) false) 0 13) (limits-fit n)
-      ∙ ap (λ (t : Bool). cond {A = ℕ} (cond (not (above n || wide n)) t false) 0 13) (leb-not (sum g n) N)
-      ∙ go (above n) (wide n) (ltb N (sum g n))
+  shares-first =
+      ap (λ (t : Bool). cond {A = ℕ} (cond t (leb (sum (R .guarantee) n) (R .size)) false) 0 13) (limits-fit n)
+      ∙ ap (λ (t : Bool). cond {A = ℕ} (cond (not (above n || wide n)) t false) 0 13) (leb-not (sum (R .guarantee) n) (R .size))
+      ∙ go (above n) (wide n) (ltb (R .size) (sum (R .guarantee) n))
     where
       go : (a b c : Bool) → cond {A = ℕ} (cond (not (a || b)) (not c) false) 0 13 ≡ cond a 13 (cond b 13 (cond c 13 0))
       go true b c = refl
@@ -377,4 +379,4 @@ fresh-lowest t g l =
     subst (Lowest (λ n. among n (freshCases t g l))) (sym (settled (freshAnswer t g l) _ _ refl refl ∙ nest)) (first-lowest 1 (freshCases t g l) (omega arith) refl)
   where
     nest : freshAnswer t g l ≡ first (freshCases t g l)
-    nest = not-eq itself _ _ _ _ (not-eq itself _ _ _ _ (not-eq itself _ _ _ _ (shares-first placesInAll (λ k. getD g k 0) (λ k. getD l k 0) services) refl) refl) refl
+    nest = not-eq itself _ _ _ _ (not-eq itself _ _ _ _ (not-eq itself _ _ _ _ (shares-first (shared placesInAll services g l (λ k. 0))) refl) refl) refl

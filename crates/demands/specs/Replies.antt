@@ -4,10 +4,10 @@ use mathlib.Core.Bool.{Bool, true, false, not, _||_}
 use mathlib.Core.List.{List, []}
 use Prim.Native.Nat.{ℕ, zero, suc, _≤_, _<_}
 use native.Mathlib.Omega.{arith}
-use lib.ListN.{length, getD}
+use lib.ListN.{length}
 use Rattle.laws.specs.If.{ifB, lt, eq, ne, ge, yes, no, by-eq, by-b, was-eq, was-yes, true-false}
 use Rattle.paper.specs.Sizes.{placesInAll, services, placeOf}
-use Rattle.paper.specs.Shares.{sharesFit}
+use Rattle.paper.specs.Shares.{shared, sharesFit}
 use Rattle.paper.specs.Messages.{messageOf}
 use Rattle.paper.specs.Dialogues.{Place, Request, unlessRefused, refusal, does, request}
 use Rattle.paper.specs.Dialogues.Request.{Invoke, Result, Error, UserReject, Cancel, Begin, Continue, End, Prearranged, Abort, Unidirectional, Timeout, RejectTimeout, NoReaction}
@@ -29,7 +29,7 @@ use Rattle.demands.specs.History.{Made, gave, told, told-step}
 pub record Begun (t g l : List ℕ) : Type 0 where
   pub guarantees : length g ≡ 16
   pub limits : length l ≡ 16
-  pub fit : sharesFit placesInAll services (λ k. getD g k 0) (λ k. getD l k 0) ≡ true
+  pub fit : sharesFit (shared placesInAll services g l (λ k. 0)) ≡ true
   pub table : freshOutcome t g l .lent .table ≡ encode (freshTable g l)
 
 pub begun-told : (t g l : List ℕ) → freshOutcome t g l .answer ≡ 0 → Begun t g l

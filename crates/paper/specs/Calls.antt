@@ -19,7 +19,7 @@ use Rattle.paper.specs.Messages.{messageOf, isSound, isDropped, noRun, u
 use Rattle.paper.specs.Writing.{causeAbortOctets}
 use Rattle.paper.specs.Kinds.{rowUni, rowBegin, rowContinue, rowEnd, rowUserAbort, rowAbort}
 use Rattle.paper.specs.Rows.{dialogueRow, componentRows, allActed}
-use Rattle.paper.specs.Shares.{gives}
+use Rattle.paper.specs.Shares.{Resource, shared, gives}
 use Rattle.paper.specs.Dialogues.{Place, Request, Done, request, emptyPlace, emptyControl, freed, begun, withControl, dialogueFree, dialogueOpen, dialogueSent, dialogueReceived, dialogueActive}
 
 -- THE TABLE: shares and places
@@ -27,12 +27,6 @@ pub record Table : Type 0 where
   pub guarantees : List ℕ
   pub limits : List ℕ
   pub places : List Place
-
-abbrev pub guaranteeOf : Table → ℕ → ℕ
-guaranteeOf T s = getD (T .guarantees) s 0
-
-abbrev pub limitOf : Table → ℕ → ℕ
-limitOf T s = getD (T .limits) s 0
 
 abbrev pub placeAt : Table → ℕ → Place
 placeAt T p = getD (T .places) p (emptyPlace 0)
@@ -51,9 +45,13 @@ isOf s x = ifB (isFree x) 0 (ifEq (x .control .service) s 1 0)
 unfoldable pub held : List Place → ℕ → ℕ
 held ps s = sumBy (isOf s) ps
 
--- whether a new dialogue of a service is given a place (demand 3)
+-- DIALOGUES are a resource (demand 3): a table has 128 places for those of its services
+abbrev pub dialogues : Table → Resource
+dialogues T = shared placesInAll services (T .guarantees) (T .limits) (held (T .places))
+
+-- whether a new dialogue of a service is given a place
 unfoldable pub mayBegin : Table → ℕ → Bool
-mayBegin T s = gives placesInAll services (guaranteeOf T) (limitOf T) (held (T .places)) s
+mayBegin T s = gives (dialogues T) s
 
 -- "the lowest is taken"
 unfoldable pub lowestFree : Table → ℕ

@@ -18,7 +18,7 @@ use Rattle.paper.specs.Messages.{messageOf, isSound, uniTag, beginTag, e
 use Rattle.paper.specs.Writing.{Written, joined}
 use Rattle.paper.specs.Portions.{Form, aarq, aare, abrt, audt, portionBy, Spoken, spokenIn, spokenBy}
 use Rattle.paper.specs.Kinds.{rowBegin, rowContinue, rowRejected}
-use Rattle.paper.specs.Shares.{gives}
+use Rattle.paper.specs.Shares.{shared, gives}
 use Rattle.paper.specs.Dialogues.{Request, abortPortion, dialogueOpen, dialogueSent, dialogueReceived, dialogueActive}
 use Rattle.paper.specs.Dialogues.Request.{Invoke, Result, Error, UserReject, Cancel, Begin, Continue, End, Prearranged, Abort, Unidirectional, Timeout, RejectTimeout, NoReaction}
 use Rattle.paper.specs.Calls.{Call, octetsAt, destinationNumber, itemsOf}
@@ -259,7 +259,7 @@ unfoldable pub entriesOf : List Entry → ℕ → ℕ
 entriesOf l s = sumBy (isEntryOf s) l
 
 unfoldable pub mayBeginIn : Ledger → ℕ → Bool
-mayBeginIn L s = gives placesInAll services (λ k. getD (L .guarantees) k 0) (λ k. getD (L .limits) k 0) (entriesOf (L .dialogues)) s
+mayBeginIn L s = gives (shared placesInAll services (L .guarantees) (L .limits) (entriesOf (L .dialogues))) s
 
 -- its P-Abort cause: "unknown type, 0; order, frame or dialogue portion wrong, or end of 6C not found, 2; Begin without a place, 4;
 -- destination not assigned, 1; Continue in Received, 3"; above 4 where it is at no fault or dropped for its form

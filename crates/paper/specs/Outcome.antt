@@ -2,13 +2,13 @@
 use mathlib.Core.Path.{_≡_, sym, _∙_}
 use mathlib.Core.List.{List, []}
 use Prim.Native.Nat.{ℕ, zero, suc}
-use lib.ListN.{length, getD}
+use lib.ListN.{length}
 use lib.Seq.{sets}
 use Rattle.laws.specs.If.{ifLt, ifEq, ifB}
 use Rattle.paper.specs.Sizes.{placesInAll, services, leastRows, leastSpace}
 use Rattle.paper.specs.Portions.{portionRow, portionAt}
 use Rattle.paper.specs.Rows.{rowOctets, rowsOctets}
-use Rattle.paper.specs.Shares.{sharesFit}
+use Rattle.paper.specs.Shares.{shared, sharesFit}
 use Rattle.paper.specs.Dialogues.{Request}
 use Rattle.paper.specs.Dialogues.Request.{Invoke, Result, Error, UserReject, Cancel, Begin, Continue, End, Prearranged, Abort, Unidirectional, Timeout, RejectTimeout, NoReaction}
 use Rattle.paper.specs.Calls.{Call, Out, step, freshTable}
@@ -97,7 +97,7 @@ unfoldable pub freshAnswer : List ℕ → List ℕ → List ℕ → ℕ
 freshAnswer t g l =
     ifEq (length t) tableSize
     (ifEq (length g) services
-    (ifEq (length l) services (ifB (sharesFit placesInAll services (λ k. getD g k 0) (λ k. getD l k 0)) 0 13) 1)
+    (ifEq (length l) services (ifB (sharesFit (shared placesInAll services g l (λ k. 0))) 0 13) 1)
     1)
     1
 

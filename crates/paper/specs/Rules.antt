@@ -14,8 +14,8 @@ use Rattle.paper.specs.Problems.{senderOfProblem, byLayer, kindOf}
 use Rattle.paper.specs.Components.{Item, noID, noFault, components}
 use Rattle.paper.specs.Invocations.{idle, slotOf}
 use Rattle.paper.specs.Dialogues.{dialogueFree, dialogueReceived, dialogueActive}
-use Rattle.paper.specs.Shares.{sharesFit, sharesKept}
-use Rattle.paper.specs.Calls.{Table, guaranteeOf, limitOf, held}
+use Rattle.paper.specs.Shares.{sharesKept}
+use Rattle.paper.specs.Calls.{Table, dialogues}
 use Rattle.paper.specs.Layout.{stateAt, waitingLengthAt, waitingStart, placeBy, slot, mapBit, view}
 
 -- "a free place is all zero but its turn"; its bit of the map is set
@@ -94,10 +94,7 @@ placeKept t p =
 
 -- "shares as for 13; nobody above the limit; free places at least the sum of unused guarantees"
 unfoldable pub tableShares : Table → Bool
-tableShares T =
-    ifB (sharesFit placesInAll services (guaranteeOf T) (limitOf T))
-    (sharesKept placesInAll services (guaranteeOf T) (limitOf T) (held (T .places)))
-    false
+tableShares T = sharesKept (dialogues T)
 
 unfoldable pub rules : List ℕ → Bool
 rules t = ifB (all (placeKept t) placesInAll) (tableShares (view t)) false

@@ -8,12 +8,12 @@ use lib.Dec.{eqb}
 use borrow.Author.Tests.{eqb-true, eqb-false, ne-eqb}
 use lib.ListN.{length, getD, set, length-set}
 use lib.Seq.{getD-set-same, getD-set-other}
-use Rattle.laws.specs.If.{ifEq, ifB, no}
+use Rattle.laws.specs.If.{ifEq, no}
 use Rattle.laws.specs.Sums.{sumBy-set}
-use Rattle.paper.specs.Sizes.{nextTurn}
-use Rattle.paper.specs.Shares.{sharesFit, sharesKept}
+use Rattle.paper.specs.Sizes.{placesInAll, services, nextTurn}
+use Rattle.paper.specs.Shares.{shared, sharesKept}
 use Rattle.paper.specs.Dialogues.{Place, emptyPlace, freed}
-use Rattle.paper.specs.Calls.{Table, placeAt, withPlace, guaranteeOf, limitOf, isFree, isOf, held}
+use Rattle.paper.specs.Calls.{Table, placeAt, withPlace, isFree, isOf, held}
 use Rattle.paper.specs.Rules.{tableShares}
 use Rattle.table_laws.specs.Fine.{FinePlace, Fine}
 use Rattle.table_laws.specs.Slots.{empty-fine}
@@ -64,7 +64,7 @@ module _ (T : Table) (f : Fine T) (p : ℕ) (h : p < 128) (x : Place) where
       → tableShares (withPlace T p x) ≡ tableShares T
   unfolding tableShares
   shares-same n m e =
-      ap (λ (c : ℕ → ℕ). ifB (sharesFit 128 16 (guaranteeOf T) (limitOf T)) (sharesKept 128 16 (guaranteeOf T) (limitOf T) c) false)
+      ap (λ (c : ℕ → ℕ). sharesKept (shared placesInAll services (T .guarantees) (T .limits) c))
       (held-same (T .places) p x (omega (arith, f .places)) (of-same x (placeAt T p) m n e))
 
   pub fine-stays : FinePlace x → (placeAt T p .control .state ≡ 0 → ⊥) → (x .control .state ≡ 0 → ⊥) → x .control .service ≡ placeAt T p .control .service

@@ -2,7 +2,7 @@
 use mathlib.Core.Path.{_≡_, refl, sym, ap, subst, _∙_}
 use mathlib.Core.Bool.{Bool, true, false, cond}
 use mathlib.Core.List.{List, [], _∷_, map}
-use Prim.Native.Nat.{ℕ, zero, suc, _+_, _-_, _<_}
+use Prim.Native.Nat.{ℕ, zero, suc, _+_, _<_}
 use native.Mathlib.Omega.{arith}
 use lib.Dec.{eqb, ltb, leb}
 use borrow.Author.Tests.{eqb-true, eqb-false, ltb-true, ltb-false, le-leb, lt-leb}
@@ -10,9 +10,8 @@ use lib.ListN.{length, getD, take}
 use Rattle.laws.specs.If.{ifEq, ifB, ne, yes, no}
 use Rattle.laws.specs.Sums.{sum, sum-ext, sum-plus, sum-zero, sumBy}
 use Rattle.laws.specs.Lists.{firstAt, sum-tab}
-use Rattle.laws.specs.Digits.{octetDigits, lowest, count}
+use Rattle.laws.specs.Digits.{octetDigits, lowest}
 use Rattle.paper.specs.Dialogues.{Place, emptyPlace}
-use Rattle.paper.specs.Shares.{free}
 use Rattle.paper.specs.Calls.{Table, placeAt, isFree, isOf, held, lowestFree}
 use Rattle.paper.specs.Layout.{flag, placeBy, slot, view}
 use Rattle.table_laws.specs.Fine.{Fine}
@@ -33,12 +32,7 @@ pub ready-lowest : (t : List ℕ) → Ready t → lowest (octetDigits (take 16 t
 unfolding lowestFree
 ready-lowest t r = ap lowest (ready-bits t r) ∙ lowest-first (view t .places)
 
--- ---- the bits that are set are the free places
-pub count-free : (ps : List Place) → count (map flag ps) ≡ sumBy flag ps
-unfolding count
-count-free [] = refl
-count-free (x ∷ ps) = ap (λ (n : ℕ). flag x + n) (count-free ps)
-
+-- ---- every place is one service's, or free
 -- a number below n is one of those
 one-of : (v n : ℕ) → sum (λ s. cond (eqb v s) 1 0) n + cond (leb n v) 1 0 ≡ 1
 one-of v zero = rw (le-leb 0 v (omega arith))
@@ -80,15 +74,6 @@ held-free (x ∷ ps) n h =
 
 pub all-places : (T : Table) → Fine T → sum (held (T .places)) 16 + sumBy flag (T .places) ≡ 128
 all-places T f = held-free (T .places) 16 (λ i l. f .each i (omega (arith, f .places)) .control .service) ∙ f .places
-
-pub ready-count : (t : List ℕ) → Ready t → count (octetDigits (take 16 t)) ≡ free 128 16 (held (view t .places))
-ready-count t r =
-    let n : ℕ = sum (held (view t .places)) 16 in
-    let e : sumBy flag (view t .places) ≡ 128 - n = less n (sumBy flag (view t .places)) (all-places (view t) (r .fine)) in
-    ap count (ready-bits t r) ∙ count-free (view t .places) ∙ e
-  where
-    less : (n m : ℕ) → n + m ≡ 128 → m ≡ 128 - n
-    less n m h = omega arith
 
 -- ---- where a place is free, the lowest is there, and free
 pub first-there : (ps : List Place) → 0 < sumBy flag ps → firstAt isFree ps < length ps

@@ -4,11 +4,11 @@ use mathlib.Core.Bool.{true, false}
 use mathlib.Core.List.{List, map}
 use Prim.Native.Nat.{ℕ, _+_, _-_, _<_, _≤_}
 use native.Mathlib.Omega.{arith}
-use lib.ListN.{length, getD, take, drop, length-drop}
-use lib.Seq.{length-take-le, getD-take, getD-drop}
+use lib.ListN.{length, take, drop, length-drop}
+use lib.Seq.{length-take-le}
 use Rattle.laws.specs.If.{yes, was-yes, true-false, all, all-of}
 use Rattle.laws.specs.Digits.{octetDigits}
-use Rattle.paper.specs.Calls.{Table, placeAt, guaranteeOf, limitOf}
+use Rattle.paper.specs.Calls.{Table, placeAt}
 use Rattle.paper.specs.Layout.{placeOctets, flag, encode, slot, view, mapBit}
 use Rattle.paper.specs.Rules.{placeKept, tableShares, rules}
 use Rattle.table_laws.specs.Fine.{Octets, Fine}
@@ -69,12 +69,3 @@ module _ (t : List ℕ) (r : Ready t) where
   -- the view has no other octets
   pub view-back : view (encode (view t)) ≡ view t
   view-back = view-encode (view t) (r .fine)
-
--- the shares are octets of the table, in any table
-pub guarantee-at : (t : List ℕ) (s : ℕ) → s < 16 → guaranteeOf (view t) s ≡ getD t (16 + s) 0
-unfolding view
-guarantee-at t s h = getD-take 16 (drop 16 t) s 0 h ∙ getD-drop 16 t s 0
-
-pub limit-at : (t : List ℕ) (s : ℕ) → s < 16 → limitOf (view t) s ≡ getD t (32 + s) 0
-unfolding view
-limit-at t s h = getD-take 16 (drop 32 t) s 0 h ∙ getD-drop 32 t s 0

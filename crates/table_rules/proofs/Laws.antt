@@ -364,14 +364,6 @@ kind-here t p b r e q =
     let n : placeStart p + 284 - placeStart p ≡ 284 = omega arith in
     e ∙ ap (λ (k : ℕ). kindOf (take k (drop (placeStart p) t)) b) n ∙ ap (kindOf (take 284 (drop (placeStart p) t))) q
 
--- ---- two totals by the numbers that the code has of them
-module _ {x m y n : ℕ} (e : x ≡ y) (f : n ≡ m) where
-  pub beyond : n < y → x ≤ m → ⊥
-  beyond h l = omega arith
-
-  pub within : y ≤ n → x ≤ m
-  within h = omega arith
-
 -- ---- the waiting octets one component after another: what is left answers for the whole
 pub record Left (w : List ℕ) (at : ℕ) : Type 0 where
   pub turns : ℕ

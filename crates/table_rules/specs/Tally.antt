@@ -14,9 +14,8 @@ use Rattle.laws.specs.If.{ifEq, ifB, all, all-at, all-step, yes, no}
 use Rattle.laws.specs.Sums.{sum, sum-ext, sum-plus, sum-zero, sum-but, but, sumBy}
 use Rattle.laws.specs.Lists.{tab, at-tab, tab-set, tab-ext, tab-all, sum-tab}
 use Rattle.laws.specs.Digits.{count, octetDigits, octetDigits-length}
-use Rattle.paper.specs.Sizes.{placesInAll, services}
 use Rattle.paper.specs.Shares.{free}
-use Rattle.paper.specs.Calls.{isFree, isOf, held}
+use Rattle.paper.specs.Calls.{isFree, isOf, held, dialogues}
 use Rattle.paper.specs.Layout.{placeBy, slot, view, mapBit}
 use Rattle.paper.specs.Rules.{placeKept}
 use Rattle.table_rules.specs.Kinds.{kindAt, kept-at, place-kept}
@@ -195,7 +194,7 @@ module _ (t : List ℕ) (keeps : all (placeKept t) 128 ≡ true) where
       small : (q : ℕ) → q < 128 → kindAt t q < 17
       small q h = ltb-true (kindAt t q) 17 (sym (place-kept t q) ∙ each q h)
 
-  pub free-count : 16 ≤ length t → count (octetDigits (take 16 t)) ≡ free placesInAll services (held (view t .places))
+  pub free-count : 16 ≤ length t → count (octetDigits (take 16 t)) ≡ free (dialogues (view t))
   unfolding mapBit
   free-count h =
       let l : List ℕ = octetDigits (take 16 t) in

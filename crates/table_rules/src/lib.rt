@@ -11,17 +11,16 @@ use paper::WAITING;
 ghost use mathlib.Core.Path.{_≡_};
 ghost use mathlib.Core.Bool.{false};
 ghost use mathlib.Core.List.{[], _∷_};
-ghost use Prim.Native.Nat.{ℕ, _+_, _*_, _-_, _≤_, _<_};
+ghost use Prim.Native.Nat.{_≤_, _<_};
 ghost use lib.Dec.{eqb};
 ghost use lib.ListN.{length, drop, getD};
 ghost use Rattle.laws.specs.Lists.{zeros};
 ghost use Rattle.paper.specs.Invocations.{isOpen};
-ghost use Rattle.paper.specs.Calls.{held};
-ghost use Rattle.paper.specs.Layout.{invocationBy, rejectBy, controlBy, view};
+ghost use Rattle.paper.specs.Layout.{invocationBy, rejectBy, controlBy};
 ghost use Rattle.paper.specs.Rules.{freeKept, invocationKept, invocationsKept, rejectKept, rejectsKept, hasPeer, peerKept, waitingKept, usedKept};
 ghost use Rattle.table_rules.specs.Kinds.{invocationsFrom, noneOpen, invocationAtKept, IdleFrom, rejectsFrom, rejectAtKept, octetsKept, headKept, tailKept, kindOf};
 ghost use Rattle.table_rules.specs.Tally.{FreeRun};
-ghost use Rattle.table_rules.specs.Checking.{Scanned, shareKept, freeOf, SharesTold, CheckTold};
+ghost use Rattle.table_rules.specs.Checking.{Scanned, CheckTold};
 
 // Whether a place's octets are all 0 from k on.
 fn zeros_from(rec: &[u8], k: usize) -> bool
@@ -161,8 +160,8 @@ fn invocations_kept(rec: &[u8]) -> bool
 fn reject_kept(id: u8, o: u8) -> bool
     ensures { λ r. ⌜ r ≡ rejectKept (rejectBy id o) ⌝ }
 {
-    let kind = number(o / 8 % 16);
-    let code = number(o % 8);
+    let kind = laws::number(o / 8 % 16);
+    let code = laws::number(o % 8);
     if reading_problems::sender(kind, code) != 0 {
         return false;
     }
@@ -451,82 +450,6 @@ fn scan(t: &[u8]) -> Kinds
     }
 }
 
-// A service's guarantee and limit are shares as for 13, and its count is within the limit.
-fn share_kept(g: u8, l: u8, c: u8) -> bool
-    ensures { λ r. ⌜ r ≡ shareKept g l c ⌝ }
-{
-    if l < g {
-        return false;
-    }
-    if 128 < l {
-        return false;
-    }
-    c <= l
-}
-
-// What of g is not used by c.
-fn unused_of(g: u8, c: u8) -> u32
-    ensures { λ r. ⌜ (r ≡ g - c) × (r < 256) ⌝ }
-{
-    if g < c {
-        return 0;
-    }
-    (g - c) as u32
-}
-
-fn number(x: u8) -> u32
-    ensures { λ r. ⌜ (r ≡ x) × (r < 256) ⌝ }
-{
-    x as u32
-}
-
-pub struct Parted {
-    pub ok: bool,
-    pub unused: u32,
-}
-
-fn unfair() -> Parted
-    ensures { λ r. ⌜ r .ok ≡ false ⌝ }
-{
-    Parted {
-        ok: false,
-        unused: 0,
-    }
-}
-
-// The share rules, and the guarantees that are not used.
-fn shares_kept(t: &[u8], counts: [u8; 16], free: u32) -> Parted
-    requires { ⌜ (length (now t) ≡ 36400) × ((k : ℕ) → k < 16 → getD counts k 0 ≡ held (view (now t) .places) k) × (free ≡ freeOf (view (now t))) ⌝ }
-    ensures { λ r. ⌜ SharesTold (view (now (t .entry))) (r .ok) (r .unused) ⌝ }
-{
-    let mut sum: u32 = 0;
-    let mut unused: u32 = 0;
-    let mut k: usize = 0;
-    while k < 16 {
-        let i = GUARANTEES + k;
-        let j = LIMITS + k;
-        let g = t[i];
-        let c = counts[k];
-        if share_kept(g, t[j], c) {
-            sum = sum + number(g);
-            unused = unused + unused_of(g, c);
-            k += 1;
-        } else {
-            return unfair();
-        }
-    }
-    if 128 < sum {
-        return unfair();
-    }
-    if free < unused {
-        return unfair();
-    }
-    Parted {
-        ok: true,
-        unused: unused,
-    }
-}
-
 pub struct Checked {
     pub answer: u32,
     pub counts: [u8; 16],
@@ -557,13 +480,19 @@ pub fn check(t: &[u8]) -> Checked
     if kept {
         let counts = s.counts;
         let free = table_map::free_count(t);
-        let parted = shares_kept(t, counts, free);
-        let fair = parted.ok;
+        let shares = table_shares::shares_kept(
+            &t[GUARANTEES..LIMITS],
+            &t[LIMITS..PLACES],
+            counts,
+            128,
+            free,
+        );
+        let fair = shares.ok;
         if fair {
             return Checked {
                 answer: 0,
                 counts: counts,
-                unused: parted.unused,
+                unused: shares.unused,
                 free: free,
             };
         }

@@ -1,3 +1,4 @@
 pub mod Share
 pub mod Telling
+pub mod Counting
 pub mod Example

@@ -1,17 +1,18 @@
-// The share rule (demand 3): its laws stand in specs/, the decision on numbers is here.
+// The share rule (demand 3), of any resource that services share: its laws stand in specs/, the decisions on numbers are here. How much
+// there is of a resource is a number handed in, and what a service may and does have are numbers of 32 bits, whatever the octets they stand in.
 ghost use mathlib.Core.Path.{_≡_};
 ghost use mathlib.Core.Bool.{false};
-ghost use Prim.Native.Nat.{ℕ, _<_};
+ghost use Prim.Native.Nat.{ℕ, _-_, _<_};
 ghost use lib.Dec.{leb};
 ghost use lib.ListN.{length, getD};
-ghost use Rattle.laws.specs.If.{ifLt};
-ghost use Rattle.paper.specs.Sizes.{placesInAll, services};
-ghost use Rattle.paper.specs.Shares.{gives, sharesFit};
-ghost use Rattle.table_shares.specs.Telling.{Told};
+ghost use Rattle.laws.specs.If.{ifLt, ifB};
+ghost use Rattle.paper.specs.Sizes.{services};
+ghost use Rattle.paper.specs.Shares.{Resource, shared, gives, sharesFit};
+ghost use Rattle.table_shares.specs.Telling.{Told, Remains, Parted};
 
-// Whether a service is given a place. At or above its guarantee its own unused part is 0, so all services' is the others'.
+// Whether a service is given one more. At or above its guarantee its own unused part is 0, so all services' is the others'.
 pub fn gives_place(count: u32, guarantee: u32, limit: u32, unused: u32, free: u32) -> bool
-    ensures { λ r. ⌜ ((g l c : ℕ → ℕ) (s : ℕ) → Told g l c s count guarantee limit unused free → r ≡ gives placesInAll services g l c s) ⌝ }
+    ensures { λ r. ⌜ ((R : Resource) (s : ℕ) → Told R s count guarantee limit unused free → r ≡ gives R s) ⌝ }
 {
     if count < guarantee {
         return true;
@@ -25,37 +26,100 @@ pub fn gives_place(count: u32, guarantee: u32, limit: u32, unused: u32, free: u3
     true
 }
 
-// A guarantee is not above its limit, nor the limit above 128.
-fn limit_fits(guarantee: u8, limit: u8) -> bool
-    ensures { λ r. ⌜ r ≡ ifLt limit guarantee false (leb limit placesInAll) ⌝ }
+pub struct Share {
+    pub guarantee: u32,
+    pub limit: u32,
+}
+
+// A service's share, where shares stand as octets, one a service.
+pub fn share_at(guarantees: &[u8], limits: &[u8], k: usize) -> Share
+    requires { ⌜ (length (now guarantees) ≡ services) × (length (now limits) ≡ services) × (k < services) ⌝ }
+    ensures { λ r. ⌜ (r .guarantee ≡ getD (now (guarantees .entry)) k 0) × (r .limit ≡ getD (now (limits .entry)) k 0) × (r .guarantee < 256) ⌝ }
+{
+    let guarantee = laws::number(guarantees[k]);
+    let limit = laws::number(limits[k]);
+    Share {
+        guarantee: guarantee,
+        limit: limit,
+    }
+}
+
+// A guarantee is not above its limit, nor the limit above all there is (answer 13), and what is held is within the limit.
+fn share_kept(guarantee: u32, limit: u32, count: u32, size: u32) -> bool
+    ensures { λ r. ⌜ r ≡ ifB (ifLt limit guarantee false (leb limit size)) (leb count limit) false ⌝ }
 {
     if limit < guarantee {
         return false;
     }
-    limit <= 128
+    if size < limit {
+        return false;
+    }
+    count <= limit
 }
 
-fn number(x: u8) -> u32
-    ensures { λ r. ⌜ (r ≡ x) × (r < 256) ⌝ }
+// What of a guarantee is not used.
+fn unused_of(guarantee: u32, count: u32) -> u32
+    ensures { λ r. ⌜ r ≡ guarantee - count ⌝ }
 {
-    x as u32
+    if guarantee < count {
+        return 0;
+    }
+    guarantee - count
 }
 
-// Whether a fresh table takes these guarantees and limits, a service each (answer 13 where not).
-pub fn shares_fit(guarantees: &[u8], limits: &[u8]) -> bool
-    requires { ⌜ (length (now guarantees) ≡ services) × (length (now limits) ≡ services) ⌝ }
-    ensures { λ r. ⌜ r ≡ sharesFit placesInAll services (λ k. getD (now (guarantees .entry)) k 0) (λ k. getD (now (limits .entry)) k 0) ⌝ }
+pub struct Kept {
+    pub ok: bool,
+    pub unused: u32,
+}
+
+fn unfair() -> Kept
+    ensures { λ r. ⌜ r .ok ≡ false ⌝ }
+{
+    Kept {
+        ok: false,
+        unused: 0,
+    }
+}
+
+// "shares as for 13; nobody above the limit; free places at least the sum of unused guarantees", and that sum: of a resource of that size of
+// which so much is free.
+pub fn shares_kept(guarantees: &[u8], limits: &[u8], counts: [u8; 16], size: u32, free: u32) -> Kept
+    requires { ⌜ (length (now guarantees) ≡ services) × (length (now limits) ≡ services) × Remains (shared size services (now guarantees) (now limits) (λ k. getD counts k 0)) free ⌝ }
+    ensures { λ r. ⌜ Parted (shared size services (now (guarantees .entry)) (now (limits .entry)) (λ k. getD counts k 0)) (r .ok) (r .unused) ⌝ }
 {
     let mut sum: u32 = 0;
+    let mut unused: u32 = 0;
     let mut k: usize = 0;
     while k < 16 {
-        let guarantee = guarantees[k];
-        if limit_fits(guarantee, limits[k]) {
-            sum = sum + number(guarantee);
+        let share = share_at(guarantees, limits, k);
+        let guarantee = share.guarantee;
+        let count = laws::number(counts[k]);
+        if share_kept(guarantee, share.limit, count, size) {
+            sum = sum + guarantee;
+            unused = unused + unused_of(guarantee, count);
             k += 1;
         } else {
-            return false;
+            return unfair();
         }
     }
-    sum <= 128
+    if size < sum {
+        return unfair();
+    }
+    if free < unused {
+        return unfair();
+    }
+    Kept {
+        ok: true,
+        unused: unused,
+    }
+}
+
+// Whether a fresh table takes these guarantees and limits (answer 13 where not): they are kept where nobody holds any.
+pub fn shares_fit(guarantees: &[u8], limits: &[u8], size: u32) -> bool
+    requires { ⌜ (length (now guarantees) ≡ services) × (length (now limits) ≡ services) ⌝ }
+    ensures { λ r. ⌜ r ≡ sharesFit (shared size services (now (guarantees .entry)) (now (limits .entry)) (λ k. 0)) ⌝ }
+{
+    let none: [u8; 16] = [0; 16];
+    let kept = shares_kept(guarantees, limits, none, size, size);
+    kept.ok
 }

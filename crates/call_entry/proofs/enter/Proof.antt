@@ -1,5 +1,6 @@
 use mathlib.Core.Path.{_≡_, sym, _∙_}
 use native.Mathlib.Omega.{arith}
+use Rattle.paper.specs.Layout.{view}
 use Rattle.call_entry.specs.Prologue.{enters-not, enters-service, enters}
 use borrow.Author.Needs.{needs}
 use Rattle.call_entry.proofs.enter.Statement.{statement}
@@ -26,41 +27,45 @@ array-read-wide c = search needs
 wide-requires : tie.Need-wide-requires
 wide-requires c κs = search needs
 
-add-wide : tie.Need-add-wide
-add-wide c = search needs
+sub-share-at : tie.Need-sub-share-at
+sub-share-at c = search needs
 
-shared-slice-read-wide : tie.Need-shared-slice-read-wide
-shared-slice-read-wide c =
+part-share-at-start : tie.Need-part-share-at-start
+part-share-at-start c = search needs
+
+part-share-at-end : tie.Need-part-share-at-end
+part-share-at-end c =
+    let b = c .before .before .before .before in
+    let z : b .check .result .answer ≡ 0 = omega arith in
+    omega (arith, b .check .ensures .fine z .ready .long)
+
+sub-share-at-2 : tie.Need-sub-share-at-2
+sub-share-at-2 c = search needs
+
+part-share-at-start-2 : tie.Need-part-share-at-start-2
+part-share-at-start-2 c = search needs
+
+part-share-at-end-2 : tie.Need-part-share-at-end-2
+part-share-at-end-2 c =
     let b = c .before .before .before .before .before in
     let z : b .check .result .answer ≡ 0 = omega arith in
     omega (arith, b .check .ensures .fine z .ready .long)
 
-wide-requires-2 : tie.Need-wide-requires-2
-wide-requires-2 c κs = search needs
-
-add-wide-2 : tie.Need-add-wide-2
-add-wide-2 c = search needs
-
-shared-slice-read-wide-2 : tie.Need-shared-slice-read-wide-2
-shared-slice-read-wide-2 c =
-    let b = c .before .before .before .before .before .before .before in
-    let z : b .check .result .answer ≡ 0 = omega arith in
-    omega (arith, b .check .ensures .fine z .ready .long)
-
-wide-requires-3 : tie.Need-wide-requires-3
-wide-requires-3 c κs = search needs
+share-at-requires : tie.Need-share-at-requires
+share-at-requires c κs = search needs
 
 gives-place-requires : tie.Need-gives-place-requires
 gives-place-requires c κs = search needs
 
 returns-3 : tie.Need-returns-3
+unfolding view
 returns-3 c =
-    let k = c .before .before .before .before .before in
+    let k = c .before .before .before .before in
     let b = k .before .before .before .before in
     let a = b .before .before .args in
     let z : b .check .result .answer ≡ 0 = omega arith in
     enters (a .t .now) (a .service) (b .check .result .counts) (b .check .result .unused) (b .check .result .free) (sym z ∙ b .check .ensures .is)
-    (b .check .ensures .fine z) (omega arith) (c .gives-place .result) _ _ _ (k .wide .ensures) (c .before .before .before .wide2 .ensures) (c .before .wide3 .ensures)
+    (b .check .ensures .fine z) (omega arith) (c .gives-place .result) _ _ _ (k .wide .ensures) (c .before .share-at .ensures .0) (c .before .share-at .ensures .1)
     (c .gives-place .ensures)
 
 pub enter-spec : {M : Type 1} → statement M
@@ -72,11 +77,12 @@ enter-spec =
     returns-2
     array-read-wide
     wide-requires
-    add-wide
-    shared-slice-read-wide
-    wide-requires-2
-    add-wide-2
-    shared-slice-read-wide-2
-    wide-requires-3
+    sub-share-at
+    part-share-at-start
+    part-share-at-end
+    sub-share-at-2
+    part-share-at-start-2
+    part-share-at-end-2
+    share-at-requires
     gives-place-requires
     returns-3)

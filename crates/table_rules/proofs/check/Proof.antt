@@ -1,13 +1,16 @@
 use Rattle.table_laws.specs.Fine.{Octets}
-use Rattle.table_rules.specs.Checking.{check-size, check-refused, check-places, check-shares, check-fine}
-use Rattle.table_rules.specs.Tally.{tally-held, free-count}
+use Rattle.table_rules.specs.Checking.{check-size, check-refused, check-places, check-shares, check-counted, check-remains, check-fine}
+use Rattle.table_rules.specs.Tally.{tallies, free-count}
+use Rattle.table_shares.specs.Telling.{parted-same}
+use Rattle.paper.specs.Calls.{dialogues}
+use Rattle.paper.specs.Layout.{view}
 use Rattle.paper.specs.Rules.{placeKept}
 use Rattle.laws.specs.If.{all}
-use lib.ListN.{length, getD}
+use lib.ListN.{length}
 use Prim.Native.Nat.{ℕ}
 use mathlib.Core.Bool.{true}
 use mathlib.Core.List.{List}
-use mathlib.Core.Path.{_≡_, sym, ap, _∙_}
+use mathlib.Core.Path.{_≡_, sym, _∙_}
 use native.Mathlib.Omega.{arith}
 use borrow.Author.Needs.{needs}
 use Rattle.table_rules.proofs.check.Statement.{statement}
@@ -25,37 +28,63 @@ scan-requires c κs = search needs
 free-count-requires : tie.Need-free-count-requires
 free-count-requires c κs = search needs
 
+sub-shares-kept : tie.Need-sub-shares-kept
+sub-shares-kept c = search needs
+
+part-shares-kept-start : tie.Need-part-shares-kept-start
+part-shares-kept-start c = search needs
+
+part-shares-kept-end : tie.Need-part-shares-kept-end
+part-shares-kept-end c = search needs
+
+sub-shares-kept-2 : tie.Need-sub-shares-kept-2
+sub-shares-kept-2 c = search needs
+
+part-shares-kept-start-2 : tie.Need-part-shares-kept-start-2
+part-shares-kept-start-2 c = search needs
+
+part-shares-kept-end-2 : tie.Need-part-shares-kept-end-2
+part-shares-kept-end-2 c = search needs
+
 shares-kept-requires : tie.Need-shares-kept-requires
+unfolding view
 shares-kept-requires c κs =
-    let f = c .before .before in
+    let f = c .before .before .before .before in
     let t : List ℕ = f .before .before .before .before .args .t .now in
     let e : length t ≡ 36400 = omega arith in
     let k : all (placeKept t) 128 ≡ true = sym (f .before .scan .ensures .is) ∙ f .if2 .taken in (
-      e,
-      λ i h. ap (λ (l : List ℕ). getD l i 0) (f .before .scan .ensures .told (f .if2 .taken)) ∙ tally-held t k i h,
-      c .free-count .ensures .0 ∙ free-count t k (omega arith),
+      search needs,
+      search needs,
+      check-remains t e k _ _ (f .before .scan .ensures .told (f .if2 .taken)) (c .before .before .free-count .ensures .0 ∙ free-count t k (omega arith)),
     )
 
 returns-2 : tie.Need-returns-2
+unfolding view
 returns-2 c =
-    let f = c .before .before .before .before in
+    let n = c .before .before .before .before in
+    let f = n .before .before in
     let t : List ℕ = f .before .before .before .before .args .t .now in
     let e : length t ≡ 36400 = omega arith in
     let k : all (placeKept t) 128 ≡ true = sym (f .before .scan .ensures .is) ∙ f .if2 .taken in
     let o : Octets t = λ i. omega (arith, f .before .before .before .shared-slice-known .given i) in
-    check-fine t e k o _ _ _ (f .before .scan .ensures .told (f .if2 .taken)) (c .before .before .free-count .ensures .0 ∙ free-count t k (omega arith))
-    (record { is = sym (c .if3 .taken) ∙ c .before .shares-kept .ensures .is; told = λ q. c .before .shares-kept .ensures .told (c .if3 .taken) })
+    let counted : f .before .scan .result .counts ≡ tallies t 128 = f .before .scan .ensures .told (f .if2 .taken) in
+    let p = parted-same (dialogues (view t)) _ (check-counted t e k _ counted) (c .before .shares-kept .ensures) in
+    check-fine t e k o _ _ _ counted (n .free-count .ensures .0 ∙ free-count t k (omega arith))
+    (record { is = sym (c .if3 .taken) ∙ p .is; told = λ q. p .told (c .if3 .taken) })
 
 refused-requires-2 : tie.Need-refused-requires-2
 refused-requires-2 c κs = search needs
 
 returns-3 : tie.Need-returns-3
+unfolding view
 returns-3 c =
-    let f = c .before .before .before .before .before in
+    let f = c .before .before .before .before .before .before .before in
     let t : List ℕ = f .before .before .before .before .args .t .now in
     let e : length t ≡ 36400 = omega arith in
     let k : all (placeKept t) 128 ≡ true = sym (f .before .scan .ensures .is) ∙ f .if2 .taken in
-    check-refused t _ 2 _ _ _ (c .refused2 .ensures) (omega arith) (check-shares t e k (sym (c .before .if3 .left) ∙ c .before .before .shares-kept .ensures .is))
+    let counted : f .before .scan .result .counts ≡ tallies t 128 = f .before .scan .ensures .told (f .if2 .taken) in
+    let p = parted-same (dialogues (view t)) _ (check-counted t e k _ counted) (c .before .before .shares-kept .ensures) in
+    check-refused t _ 2 _ _ _ (c .refused2 .ensures) (omega arith) (check-shares t e k (sym (c .before .if3 .left) ∙ p .is))
 
 refused-requires-3 : tie.Need-refused-requires-3
 refused-requires-3 c κs = search needs
@@ -74,6 +103,12 @@ check-spec =
     returns
     scan-requires
     free-count-requires
+    sub-shares-kept
+    part-shares-kept-start
+    part-shares-kept-end
+    sub-shares-kept-2
+    part-shares-kept-start-2
+    part-shares-kept-end-2
     shares-kept-requires
     returns-2
     refused-requires-2

@@ -4,16 +4,16 @@ use Rattle.table_shares.proofs.gives_place.Statement.{statement}
 use Rattle.table_shares.proofs.gives_place.Tie as tie
 
 returns : tie.Need-returns
-returns c g l n s t = told-below g l n s _ _ _ _ _ t (omega arith)
+returns c R s t = told-below R s _ _ _ _ _ t (omega arith)
 
 returns-2 : tie.Need-returns-2
-returns-2 c g l n s t = told-limit g l n s _ _ _ _ _ t (omega arith) (omega arith)
+returns-2 c R s t = told-limit R s _ _ _ _ _ t (omega arith) (omega arith)
 
 returns-3 : tie.Need-returns-3
-returns-3 c g l n s t = told-full g l n s _ _ _ _ _ t (omega arith) (c .if3 .taken)
+returns-3 c R s t = told-full R s _ _ _ _ _ t (omega arith) (c .if3 .taken)
 
 returns-4 : tie.Need-returns-4
-returns-4 c g l n s t = told-room g l n s _ _ _ _ _ t (omega arith) (c .before .if2 .left) (c .if3 .left)
+returns-4 c R s t = told-room R s _ _ _ _ _ t (omega arith) (c .before .if2 .left) (c .if3 .left)
 
 pub gives-place-spec : {M : Type 1} → statement M
 gives-place-spec = tie.close (tie.spec returns returns-2 returns-3 returns-4)
