@@ -13,10 +13,10 @@ use Rattle.laws.specs.Lists.{zeros, pad, span, span-part, span-drop}
 use Rattle.paper.specs.declared.Invocation.{Invocation}
 use Rattle.paper.specs.declared.Reject.{Reject}
 use Rattle.paper.specs.declared.Control.{Control}
-use Rattle.paper.specs.Sizes.{three}
+use Rattle.paper.specs.Sizes.{three, mostWaiting}
 use Rattle.paper.specs.Problems.{kindOf, codeOf}
 use Rattle.paper.specs.Dialogues.{Place, noReject}
-use Rattle.paper.specs.Layout.{invocationOctets, waitingRejectOctets, placeOctets, invocationBy, invocationsAt, rejectBy, rejectsAt, placeBy}
+use Rattle.paper.specs.Layout.{invocationOctets, waitingRejectOctets, placeOctets, placeSize, waitingStart, invocationBy, invocationsAt, rejectBy, rejectsAt, placeBy}
 use Rattle.table_laws.specs.Zeros.{pad-length, pad-of, pad-rest}
 use Rattle.table_laws.specs.Fine.{Octets, FineInvocation, FineInvocations, FineRejects, FineControl}
 use Rattle.table_laws.specs.Kept.{same-invocation, same-reject, layer-small}
@@ -50,18 +50,28 @@ rejectOctets-length : (l : List Reject) → length (waitingRejectOctets l) ≡ 2
 rejectOctets-length [] = refl
 rejectOctets-length (r ∷ l) = omega (arith, rejectOctets-length l)
 
-pub controlOctets-length : (c : Control) (n : ℕ) → FineControl c → length (controlOctets c n) ≡ 44
-controlOctets-length c n f =
-    simp length-append (omega (arith, invocationOctets-length (c .invocations), rejectOctets-length (c .rejects), f .four, f .eight, f .eights))
+lists-length : (c : Control) (n : ℕ) → length (c .peer) ≡ 4 → length (c .invocations) ≡ 8 → length (c .rejects) ≡ 8 → length (controlOctets c n) ≡ waitingStart
+lists-length c n p v r = simp length-append (omega (arith, invocationOctets-length (c .invocations), rejectOctets-length (c .rejects)))
+
+pub controlOctets-length : (c : Control) (n : ℕ) → FineControl c → length (controlOctets c n) ≡ waitingStart
+controlOctets-length c n f = lists-length c n (f .four) (f .eight) (f .eights)
 
 pub place-split : (x : Place) → placeOctets x ≡ controlOctets (x .control) (length (x .waiting)) ++ pad 240 (x .waiting)
 place-split x = simp append-assoc
 
-pub placeOctets-length : (x : Place) → FineControl (x .control) → length (placeOctets x) ≡ 284
-placeOctets-length x f =
+whole-length : (x : Place) → length (controlOctets (x .control) (length (x .waiting))) ≡ waitingStart → length (placeOctets x) ≡ placeSize
+whole-length x e =
     ap length (place-split x)
-    ∙ length-append (controlOctets (x .control) (length (x .waiting))) (pad 240 (x .waiting))
-    ∙ (omega (arith, controlOctets-length (x .control) (length (x .waiting)) f, pad-length 240 (x .waiting)))
+    ∙ length-append (controlOctets (x .control) (length (x .waiting))) (pad mostWaiting (x .waiting))
+    ∙ (omega (arith, pad-length mostWaiting (x .waiting)))
+
+pub placeOctets-length : (x : Place) → FineControl (x .control) → length (placeOctets x) ≡ placeSize
+placeOctets-length x f = whole-length x (controlOctets-length (x .control) (length (x .waiting)) f)
+
+-- of a place that was read too, whatever it holds
+pub read-length : (s : List ℕ) → length (placeOctets (placeBy s)) ≡ placeSize
+unfolding placeBy
+read-length s = whole-length (placeBy s) (lists-length (placeBy s .control) (length (placeBy s .waiting)) refl refl refl)
 
 -- ---- FROM OCTETS
 invocations-forth : (n a : ℕ) (s : List ℕ) → a + 2 * n ≤ length s → invocationOctets (invocationsAt n a s) ++ drop (a + 2 * n) s ≡ drop a s

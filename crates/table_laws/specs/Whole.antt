@@ -12,11 +12,15 @@ use Rattle.laws.specs.Digits.{digits, octetDigits, packedOctets, Binary, packed
 use Rattle.laws.specs.Parts.{over, shift}
 use Rattle.paper.specs.Dialogues.{Place, emptyPlace}
 use Rattle.paper.specs.Calls.{Table, isFree, placeAt}
-use Rattle.paper.specs.Layout.{placeStart, placeOctets, allPlaces, flag, mapOctets, encode, placeBy, slot, view, mapBit}
+use Rattle.paper.specs.Layout.{placeStart, placeOctets, placeSize, allPlaces, flag, mapOctets, encode, placeBy, slot, view, mapBit}
 use Rattle.paper.specs.Rules.{placeKept}
 use Rattle.table_laws.specs.Fine.{Octets, FinePlace, Fine}
-use Rattle.table_laws.specs.Octets.{placeOctets-length, place-back}
-use Rattle.table_laws.specs.Slots.{KeptSlot, slotKept, slot-is, fine-kept}
+use Rattle.table_laws.specs.Octets.{placeOctets-length, read-length, place-back}
+use Rattle.table_laws.specs.Slots.{KeptSlot, slotKept, slot-is, place-is, fine-kept}
+
+-- place p, walked over
+unfoldable pub slotAtKept : List ℕ → ℕ → Bool
+slotAtKept t p = slotKept (slot t p) (mapBit t p)
 
 -- each place has the size of one
 abbrev pub Fit : List Place → Type 0
@@ -186,8 +190,8 @@ module _ (T : Table) (f : Fine T) where
       ∙ tab-all 128 (T .places) (emptyPlace 0) (f .places) in
       rw (a, b, c)
 
-  pub encode-kept : (p : ℕ) → p < 128 → placeKept (encode T) p ≡ true
-  unfolding placeKept
+  pub encode-kept : (p : ℕ) → p < 128 → slotAtKept (encode T) p ≡ true
+  unfolding slotAtKept
   encode-kept p h =
       ap (λ (s : List ℕ). slotKept s (mapBit (encode T) p)) (encode-slot p h)
       ∙ ap (slotKept (placeOctets (placeAt T p))) (encode-bit p h)
@@ -217,14 +221,41 @@ module _ (t : List ℕ) (e : length t ≡ 36400) where
   unfolding slot
   slot-length p h = length-take-le 284 (drop (placeStart p) t) (simp length-drop (omega arith))
 
-  module _ (o : Octets t) (k : all (placeKept t) 128 ≡ true) where
-    kept-each : (p : ℕ) → p < 128 → KeptSlot (slot t p) (mapBit t p)
-    unfolding placeKept slot
-    kept-each p h =
-        slot-is (slot t p) (mapBit t p) (slot-length p h) (take-octets 284 (drop (placeStart p) t) (drop-octets (placeStart p) t o)) (all-at (placeKept t) 128 p k h)
+  part-length : (a : ℕ) → a ≤ 32 → length (take 16 (drop a t)) ≡ 16
+  part-length a h = length-take-le 16 (drop a t) (simp length-drop (omega arith))
 
-    pub view-each : (p : ℕ) → p < 128 → FinePlace (placeAt (view t) p)
-    view-each p h = subst FinePlace (sym (view-at t p h)) (kept-each p h .fine)
+  pub view-shares : (length (view t .guarantees) ≡ 16) × (length (view t .limits) ≡ 16)
+  unfolding view
+  view-shares = (part-length 16 (omega arith), part-length 32 (omega arith))
+
+  slot-octets : Octets t → (p : ℕ) → Octets (slot t p)
+  unfolding slot
+  slot-octets o p = take-octets placeSize (drop (placeStart p) t) (drop-octets (placeStart p) t o)
+
+  -- FROM RULES ON RECORDS: where the octets are the records', each place that passes is fine
+  module _ (o : Octets t) (same : encode (view t) ≡ t) (p : ℕ) (h : p < 128) where
+    slot-same : placeOctets (placeBy (slot t p)) ≡ slot t p
+    unfolding encode slot
+    slot-same =
+        let ps : List Place = view t .places in
+        ap placeOctets (sym (view-at t p h))
+        ∙ sym (laid-slot (mapOctets ps) (view t .guarantees) (view t .limits) ps (map-length ps) (view-shares .0) (view-shares .1)
+        (λ q g. ap (λ (x : Place). length (placeOctets x)) (view-at t q (omega (arith, view-length t))) ∙ read-length (slot t q)) p (omega (arith, view-length t)))
+        ∙ ap (λ (u : List ℕ). slot u p) same
+
+    pub view-fine : placeKept (placeAt (view t) p) ≡ true → FinePlace (placeAt (view t) p)
+    view-fine k =
+        let e : placeAt (view t) p ≡ placeBy (slot t p) = view-at t p h in
+        subst FinePlace (sym e) (place-is (slot t p) (slot-length p h) (slot-octets o p) slot-same (ap placeKept (sym e) ∙ k))
+
+  -- FROM THE WALK
+  module _ (o : Octets t) (k : all (slotAtKept t) 128 ≡ true) where
+    kept-each : (p : ℕ) → p < 128 → KeptSlot (slot t p) (mapBit t p)
+    unfolding slotAtKept
+    kept-each p h = slot-is (slot t p) (slot-length p h) (slot-octets o p) (mapBit t p) (all-at (slotAtKept t) 128 p k h)
+
+    pub view-each : (p : ℕ) → p < 128 → placeKept (placeAt (view t) p) ≡ true
+    view-each p h = ap placeKept (view-at t p h) ∙ kept-each p h .kept
 
     -- the map's digits are the places' flags
     view-bits : octetDigits (take 16 t) ≡ map flag (view t .places)

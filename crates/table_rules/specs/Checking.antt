@@ -14,17 +14,18 @@ use Rattle.paper.specs.Sizes.{placesInAll, services}
 use Rattle.paper.specs.Shares.{unused, free, gives, limitFits, sharesFit, withinLimit, sharesKept}
 use Rattle.paper.specs.Calls.{Table, guaranteeOf, limitOf, held, mayBegin}
 use Rattle.paper.specs.Layout.{tableSize, view}
-use Rattle.paper.specs.Rules.{placeKept, tableShares, rules}
+use Rattle.paper.specs.Rules.{tableShares, rules}
 use Rattle.paper.specs.Outcome.{Lent, Spaces, standing}
 use Rattle.table_laws.specs.Fine.{Octets}
-use Rattle.table_laws.specs.Ready.{Ready, ready, guarantee-at, limit-at}
+use Rattle.table_laws.specs.Whole.{slotAtKept}
+use Rattle.table_laws.specs.Ready.{Ready, ready, rules-walk, guarantee-at, limit-at}
 use Rattle.table_shares.specs.Share.{Shares, Sound, fits-shares, kept-sound}
 use Rattle.table_shares.specs.Telling.{Told}
 use Rattle.table_rules.specs.Tally.{tally, tallies, tally-held, held-all}
 
 -- every place, and how many are of each kind
 pub record Scanned (t : List ℕ) (ok : Bool) (counts : List ℕ) : Type 0 where
-  pub is : ok ≡ all (placeKept t) 128
+  pub is : ok ≡ all (slotAtKept t) 128
   pub told : ok ≡ true → counts ≡ tallies t 128
 
 -- ---- the share rules, a service at a time
@@ -128,29 +129,32 @@ module _ (t : List ℕ) where
   pub check-refused : (answer n : ℕ) (counts : List ℕ) (rest left : ℕ) → answer ≡ n → 0 < n → n ≡ tableAnswer t → CheckTold t answer counts rest left
   check-refused answer n counts rest left e h q = record { is = e ∙ q; fine = λ z. absurd (omega arith) }
 
-  module _ (e : length t ≡ tableSize) where
-    pub check-places : all (placeKept t) 128 ≡ false → 2 ≡ tableAnswer t
-    unfolding tableAnswer rules
-    check-places k = eq _ _ _ _ e (no _ _ _ (sym (no _ _ _ k refl)) refl)
+  module _ (o : Octets t) (e : length t ≡ tableSize) where
+    pub check-places : all (slotAtKept t) 128 ≡ false → 2 ≡ tableAnswer t
+    unfolding tableAnswer
+    check-places k = eq _ _ _ _ e (no _ _ _ (rules-walk t o e ∙ sym (no _ _ _ k refl)) refl)
 
-    module _ (k : all (placeKept t) 128 ≡ true) where
+    module _ (k : all (slotAtKept t) 128 ≡ true) where
+      kept : {b : Bool} → b ≡ tableShares (view t) → rules t ≡ b
+      kept q = rules-walk t o e ∙ sym (yes _ _ _ k q)
+
       pub check-shares : false ≡ tableShares (view t) → 2 ≡ tableAnswer t
-      unfolding tableAnswer rules
-      check-shares q = eq _ _ _ _ e (no _ _ _ (sym (yes _ _ _ k q)) refl)
+      unfolding tableAnswer
+      check-shares q = eq _ _ _ _ e (no _ _ _ (kept q) refl)
 
       few : (a b : ℕ) → a + b ≡ 128 → a ≤ 128
       few a b q = omega arith
 
-      pub check-fine : Octets t → (counts : List ℕ) (rest left : ℕ) → counts ≡ tallies t 128 → left ≡ freeOf (view t) → SharesTold (view t) true rest
+      pub check-fine : (counts : List ℕ) (rest left : ℕ) → counts ≡ tallies t 128 → left ≡ freeOf (view t) → SharesTold (view t) true rest
           → CheckTold t 0 counts rest left
-      unfolding tableAnswer rules tableShares
-      check-fine o counts rest left c f s =
+      unfolding tableAnswer tableShares
+      check-fine counts rest left c f s =
           let shares = was-yes _ _ _ (s .is) true-false in
           record {
-            is = eq _ _ _ _ e (yes _ _ _ (sym (yes _ _ _ k (s .is))) refl);
+            is = eq _ _ _ _ e (yes _ _ _ (kept (s .is)) refl);
             fine = λ z. record {
-              ready = ready t o e (sym (yes _ _ _ k (s .is)));
-              keeps = sym (yes _ _ _ k (s .is));
+              ready = ready t o e (kept (s .is));
+              keeps = kept (s .is);
               counted = λ i h. ap (λ (l : List ℕ). getD l i 0) c ∙ tally-held t k i h;
               kept = s .told refl;
               remain = f;

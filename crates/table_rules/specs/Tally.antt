@@ -18,7 +18,7 @@ use Rattle.paper.specs.Sizes.{placesInAll, services}
 use Rattle.paper.specs.Shares.{free}
 use Rattle.paper.specs.Calls.{isFree, isOf, held}
 use Rattle.paper.specs.Layout.{placeBy, slot, view, mapBit}
-use Rattle.paper.specs.Rules.{placeKept}
+use Rattle.table_laws.specs.Whole.{slotAtKept}
 use Rattle.table_rules.specs.Kinds.{kindAt, kept-at, place-kept}
 
 abbrev pub isKind : ℕ → ℕ → ℕ
@@ -83,26 +83,26 @@ pub record FreeRun (t : List ℕ) (p r : ℕ) : Type 0 where
 -- every place below p keeps the rules and was counted; p is not free
 pub record Upto (t : List ℕ) (p : ℕ) (counts : List ℕ) : Type 0 where
   pub most : p ≤ 128
-  pub keeps : all (placeKept t) p ≡ true
+  pub keeps : all (slotAtKept t) p ≡ true
   pub counted : counts ≡ tallies t p
   pub end : p < 128 → kindAt t p ≡ 16 → ⊥
 
-run-keeps : (t : List ℕ) (n p : ℕ) → ((q : ℕ) → p ≤ q → q < p + n → kindAt t q ≡ 16) → all (placeKept t) p ≡ true
-    → (all (placeKept t) (p + n) ≡ true) × (tallies t p ≡ tallies t (p + n))
-run-keeps t zero p h k = (ap (all (placeKept t)) (add-zero p) ∙ k, ap (tallies t) (sym (add-zero p)))
+run-keeps : (t : List ℕ) (n p : ℕ) → ((q : ℕ) → p ≤ q → q < p + n → kindAt t q ≡ 16) → all (slotAtKept t) p ≡ true
+    → (all (slotAtKept t) (p + n) ≡ true) × (tallies t p ≡ tallies t (p + n))
+run-keeps t zero p h k = (ap (all (slotAtKept t)) (add-zero p) ∙ k, ap (tallies t) (sym (add-zero p)))
 run-keeps t (suc n) p h k =
     let e : p + 1 + n ≡ p + suc n = omega arith in
     let f : kindAt t p ≡ 16 = h p (omega arith) (omega arith) in
-    let r = run-keeps t n (p + 1) (λ q a b. h q (omega arith) (omega arith)) (all-step (placeKept t) p k (place-kept t p ∙ lt-ltb (kindAt t p) 17 (omega (arith, f)))) in
-    (ap (all (placeKept t)) (sym e) ∙ r .0, tallies-free t p f ∙ r .1 ∙ ap (tallies t) e)
+    let r = run-keeps t n (p + 1) (λ q a b. h q (omega arith) (omega arith)) (all-step (slotAtKept t) p k (place-kept t p ∙ lt-ltb (kindAt t p) 17 (omega (arith, f)))) in
+    (ap (all (slotAtKept t)) (sym e) ∙ r .0, tallies-free t p f ∙ r .1 ∙ ap (tallies t) e)
 
-run-upto : (t : List ℕ) (p r : ℕ) (counts : List ℕ) → all (placeKept t) p ≡ true → counts ≡ tallies t p → FreeRun t p r → Upto t r counts
+run-upto : (t : List ℕ) (p r : ℕ) (counts : List ℕ) → all (slotAtKept t) p ≡ true → counts ≡ tallies t p → FreeRun t p r → Upto t r counts
 run-upto t p r counts k c f =
     let e : p + (r - p) ≡ r = omega (arith, f .start) in
     let w = run-keeps t (r - p) p (λ q a b. f .free q a (omega arith)) k in
     record {
       most = f .most;
-      keeps = ap (all (placeKept t)) (sym e) ∙ w .0;
+      keeps = ap (all (slotAtKept t)) (sym e) ∙ w .0;
       counted = c ∙ w .1 ∙ ap (tallies t) e;
       end = f .end;
     }
@@ -114,7 +114,7 @@ pub upto-more : (t : List ℕ) (p r k : ℕ) (counts : List ℕ) → Upto t p co
     → Upto t r (set counts k (getD counts k 0 + 1))
 upto-more t p r k counts u e h f =
     run-upto t (p + 1) r (set counts k (getD counts k 0 + 1))
-    (all-step (placeKept t) p (u .keeps) (place-kept t p ∙ lt-ltb (kindAt t p) 17 (omega (arith, e))))
+    (all-step (slotAtKept t) p (u .keeps) (place-kept t p ∙ lt-ltb (kindAt t p) 17 (omega (arith, e))))
     (ap (λ (l : List ℕ). set l k (getD l k 0 + 1)) (u .counted) ∙ tallies-step t p k e h) f
 
 pub upto-small : (t : List ℕ) (p k : ℕ) (counts : List ℕ) → Upto t p counts → k < 16 → getD counts k 0 ≤ 128
@@ -144,9 +144,9 @@ count-sum [] = refl
 count-sum (d ∷ l) = ap (λ (n : ℕ). d + n) (count-sum l)
 
 -- ---- what a kind says of its place
-module _ (t : List ℕ) (keeps : all (placeKept t) 128 ≡ true) where
-  each : (q : ℕ) → q < 128 → placeKept t q ≡ true
-  each q h = all-at (placeKept t) 128 q keeps h
+module _ (t : List ℕ) (keeps : all (slotAtKept t) 128 ≡ true) where
+  each : (q : ℕ) → q < 128 → slotAtKept t q ≡ true
+  each q h = all-at (slotAtKept t) 128 q keeps h
 
   kind-of-service : (s q : ℕ) → s < 16 → q < 128 → isKind (kindAt t q) s ≡ isOf s (placeBy (slot t q))
   unfolding isOf isFree placeBy ifEq

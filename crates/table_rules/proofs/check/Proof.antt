@@ -1,7 +1,7 @@
 use Rattle.table_laws.specs.Fine.{Octets}
 use Rattle.table_rules.specs.Checking.{check-size, check-refused, check-places, check-shares, check-fine}
 use Rattle.table_rules.specs.Tally.{tally-held, free-count}
-use Rattle.paper.specs.Rules.{placeKept}
+use Rattle.table_laws.specs.Whole.{slotAtKept}
 use Rattle.laws.specs.If.{all}
 use lib.ListN.{length, getD}
 use Prim.Native.Nat.{ℕ}
@@ -30,7 +30,7 @@ shares-kept-requires c κs =
     let f = c .before .before in
     let t : List ℕ = f .before .before .before .before .args .t .now in
     let e : length t ≡ 36400 = omega arith in
-    let k : all (placeKept t) 128 ≡ true = sym (f .before .scan .ensures .is) ∙ f .if2 .taken in (
+    let k : all (slotAtKept t) 128 ≡ true = sym (f .before .scan .ensures .is) ∙ f .if2 .taken in (
       e,
       λ i h. ap (λ (l : List ℕ). getD l i 0) (f .before .scan .ensures .told (f .if2 .taken)) ∙ tally-held t k i h,
       c .free-count .ensures .0 ∙ free-count t k (omega arith),
@@ -41,9 +41,9 @@ returns-2 c =
     let f = c .before .before .before .before in
     let t : List ℕ = f .before .before .before .before .args .t .now in
     let e : length t ≡ 36400 = omega arith in
-    let k : all (placeKept t) 128 ≡ true = sym (f .before .scan .ensures .is) ∙ f .if2 .taken in
+    let k : all (slotAtKept t) 128 ≡ true = sym (f .before .scan .ensures .is) ∙ f .if2 .taken in
     let o : Octets t = λ i. omega (arith, f .before .before .before .shared-slice-known .given i) in
-    check-fine t e k o _ _ _ (f .before .scan .ensures .told (f .if2 .taken)) (c .before .before .free-count .ensures .0 ∙ free-count t k (omega arith))
+    check-fine t o e k _ _ _ (f .before .scan .ensures .told (f .if2 .taken)) (c .before .before .free-count .ensures .0 ∙ free-count t k (omega arith))
     (record { is = sym (c .if3 .taken) ∙ c .before .shares-kept .ensures .is; told = λ q. c .before .shares-kept .ensures .told (c .if3 .taken) })
 
 refused-requires-2 : tie.Need-refused-requires-2
@@ -54,8 +54,9 @@ returns-3 c =
     let f = c .before .before .before .before .before in
     let t : List ℕ = f .before .before .before .before .args .t .now in
     let e : length t ≡ 36400 = omega arith in
-    let k : all (placeKept t) 128 ≡ true = sym (f .before .scan .ensures .is) ∙ f .if2 .taken in
-    check-refused t _ 2 _ _ _ (c .refused2 .ensures) (omega arith) (check-shares t e k (sym (c .before .if3 .left) ∙ c .before .before .shares-kept .ensures .is))
+    let k : all (slotAtKept t) 128 ≡ true = sym (f .before .scan .ensures .is) ∙ f .if2 .taken in
+    check-refused t _ 2 _ _ _ (c .refused2 .ensures) (omega arith)
+    (check-shares t (λ i. omega (arith, f .before .before .before .shared-slice-known .given i)) e k (sym (c .before .if3 .left) ∙ c .before .before .shares-kept .ensures .is))
 
 refused-requires-3 : tie.Need-refused-requires-3
 refused-requires-3 c κs = search needs
@@ -64,7 +65,8 @@ returns-4 : tie.Need-returns-4
 returns-4 c =
     let t : List ℕ = c .before .before .before .before .before .args .t .now in
     let e : length t ≡ 36400 = omega arith in
-    check-refused t _ 2 _ _ _ (c .refused3 .ensures) (omega arith) (check-places t e (sym (c .before .before .scan .ensures .is) ∙ c .before .if2 .left))
+    check-refused t _ 2 _ _ _ (c .refused3 .ensures) (omega arith)
+    (check-places t (λ i. omega (arith, c .before .before .before .before .shared-slice-known .given i)) e (sym (c .before .before .scan .ensures .is) ∙ c .before .if2 .left))
 
 pub check-spec : {M : Type 1} → statement M
 check-spec =
