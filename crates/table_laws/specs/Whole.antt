@@ -258,7 +258,7 @@ module _ (t : List ℕ) (e : length t ≡ 36400) where
     view-each p h = ap placeKept (view-at t p h) ∙ kept-each p h .kept
 
     -- the map's digits are the places' flags
-    view-bits : octetDigits (take 16 t) ≡ map flag (view t .places)
+    pub view-bits : octetDigits (take 16 t) ≡ map flag (view t .places)
     unfolding mapBit
     view-bits =
         let a : length (octetDigits (take 16 t)) ≡ 128 = octetDigits-length (take 16 t) ∙ ap (λ (n : ℕ). 8 * n) (length-take-le 16 t (omega arith)) in

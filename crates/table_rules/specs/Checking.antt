@@ -9,19 +9,20 @@ use lib.Dec.{eqb, leb}
 use borrow.Author.Tests.{leb-true, le-leb, eqb-true, eqb-false}
 use lib.ListN.{length, getD}
 use Rattle.laws.specs.If.{ifLt, ifEq, ifB, all, all-at, all-of, lt, ge, eq, ne, yes, no, was-ge, was-yes, true-false}
-use Rattle.laws.specs.Sums.{sum}
+use Rattle.laws.specs.Sums.{sum, sumBy}
 use Rattle.paper.specs.Sizes.{placesInAll, services}
 use Rattle.paper.specs.Shares.{unused, free, gives, limitFits, sharesFit, withinLimit, sharesKept}
 use Rattle.paper.specs.Calls.{Table, guaranteeOf, limitOf, held, mayBegin}
-use Rattle.paper.specs.Layout.{tableSize, view}
+use Rattle.paper.specs.Layout.{tableSize, flag, view}
 use Rattle.paper.specs.Rules.{tableShares, rules}
 use Rattle.paper.specs.Outcome.{Lent, Spaces, standing}
 use Rattle.table_laws.specs.Fine.{Octets}
 use Rattle.table_laws.specs.Whole.{slotAtKept}
 use Rattle.table_laws.specs.Ready.{Ready, ready, rules-walk, guarantee-at, limit-at}
+use Rattle.table_laws.specs.Counts.{all-places}
 use Rattle.table_shares.specs.Share.{Shares, Sound, fits-shares, kept-sound}
 use Rattle.table_shares.specs.Telling.{Told}
-use Rattle.table_rules.specs.Tally.{tally, tallies, tally-held, held-all}
+use Rattle.table_rules.specs.Tally.{tallies, tally-held}
 
 -- every place, and how many are of each kind
 pub record Scanned (t : List ℕ) (ok : Bool) (counts : List ℕ) : Type 0 where
@@ -160,7 +161,7 @@ module _ (t : List ℕ) where
               remain = f;
               shares = fits-shares placesInAll services (guaranteeOf (view t)) (limitOf (view t)) (shares .0);
               sound = kept-sound placesInAll services (guaranteeOf (view t)) (limitOf (view t)) (held (view t .places))
-                  (few (sum (held (view t .places)) services) (tally t 128 16) (held-all t k)) (sym (shares .1));
+                  (few (sum (held (view t .places)) services) (sumBy flag (view t .places)) (all-places (view t) (ready t o e (kept (s .is)) .fine))) (sym (shares .1));
             };
           }
 

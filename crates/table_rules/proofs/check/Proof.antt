@@ -1,6 +1,7 @@
 use Rattle.table_laws.specs.Fine.{Octets}
 use Rattle.table_rules.specs.Checking.{check-size, check-refused, check-places, check-shares, check-fine}
-use Rattle.table_rules.specs.Tally.{tally-held, free-count}
+use Rattle.table_rules.specs.Tally.{tally-held}
+use Rattle.table_laws.specs.Counts.{walk-count}
 use Rattle.table_laws.specs.Whole.{slotAtKept}
 use Rattle.laws.specs.If.{all}
 use lib.ListN.{length, getD}
@@ -33,7 +34,7 @@ shares-kept-requires c κs =
     let k : all (slotAtKept t) 128 ≡ true = sym (f .before .scan .ensures .is) ∙ f .if2 .taken in (
       e,
       λ i h. ap (λ (l : List ℕ). getD l i 0) (f .before .scan .ensures .told (f .if2 .taken)) ∙ tally-held t k i h,
-      c .free-count .ensures .0 ∙ free-count t k (omega arith),
+      c .free-count .ensures .0 ∙ walk-count t (λ i. omega (arith, f .before .before .before .shared-slice-known .given i)) e k,
     )
 
 returns-2 : tie.Need-returns-2
@@ -43,7 +44,7 @@ returns-2 c =
     let e : length t ≡ 36400 = omega arith in
     let k : all (slotAtKept t) 128 ≡ true = sym (f .before .scan .ensures .is) ∙ f .if2 .taken in
     let o : Octets t = λ i. omega (arith, f .before .before .before .shared-slice-known .given i) in
-    check-fine t o e k _ _ _ (f .before .scan .ensures .told (f .if2 .taken)) (c .before .before .free-count .ensures .0 ∙ free-count t k (omega arith))
+    check-fine t o e k _ _ _ (f .before .scan .ensures .told (f .if2 .taken)) (c .before .before .free-count .ensures .0 ∙ walk-count t o e k)
     (record { is = sym (c .if3 .taken) ∙ c .before .shares-kept .ensures .is; told = λ q. c .before .shares-kept .ensures .told (c .if3 .taken) })
 
 refused-requires-2 : tie.Need-refused-requires-2
