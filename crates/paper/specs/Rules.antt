@@ -1,9 +1,10 @@
--- THE TABLE RULES (01, "Answer numbers"), as a test of the octets lent. Assumes nothing.
+-- THE TABLE RULES (01, "Answer numbers"): a test of each place's record, the shares, and that the octets lent are those records, laid out.
+-- Assumes nothing.
 use mathlib.Core.Bool.{Bool, true, false}
 use mathlib.Core.List.{List, [], _∷_}
-use Prim.Native.Nat.{ℕ, zero, suc, _+_, _-_}
-use lib.ListN.{length, getD, drop}
-use lib.Dec.{eqb, leb}
+use Prim.Native.Nat.{ℕ, zero, suc}
+use lib.ListN.{length, drop}
+use lib.Dec.{eqb, ltb, leb}
 use Rattle.laws.specs.If.{ifLt, ifEq, ifB, all}
 use Rattle.laws.specs.Lists.{zeros, every}
 use Rattle.paper.specs.declared.Invocation.{Invocation}
@@ -13,14 +14,10 @@ use Rattle.paper.specs.Sizes.{placesInAll, services, mostRejects, mostWa
 use Rattle.paper.specs.Problems.{senderOfProblem, byLayer, kindOf}
 use Rattle.paper.specs.Components.{Item, noID, noFault, components}
 use Rattle.paper.specs.Invocations.{idle, slotOf}
-use Rattle.paper.specs.Dialogues.{dialogueFree, dialogueReceived, dialogueActive}
+use Rattle.paper.specs.Dialogues.{Place, dialogueFree, dialogueReceived, dialogueActive}
 use Rattle.paper.specs.Shares.{sharesKept}
-use Rattle.paper.specs.Calls.{Table, dialogues}
-use Rattle.paper.specs.Layout.{stateAt, waitingLengthAt, waitingStart, placeBy, slot, mapBit, view}
-
--- "a free place is all zero but its turn"; its bit of the map is set
-unfoldable pub freeKept : List ℕ → ℕ → Bool
-freeKept s bit = ifEq bit 1 (zeros (drop stateAt s)) false
+use Rattle.paper.specs.Calls.{Table, placeAt, dialogues}
+use Rattle.paper.specs.Layout.{placeOctets, stateAt, encode, view}
 
 -- "octets and invocations not in use are zero; states .. classes .. are in range"
 unfoldable pub invocationKept : Invocation → Bool
@@ -59,17 +56,6 @@ peerKept c =
     ifB (hasPeer (c .state)) (ifLt (c .peerlen) 1 false (ifLt 4 (c .peerlen) false (zeros (drop (c .peerlen) (c .peer)))))
     (ifEq (c .peerlen) 0 (zeros (c .peer)) false)
 
--- a dialogue's control record: "states, services .. and lengths are in range"
-unfoldable pub controlKept : Control → Bool
-controlKept c =
-    ifLt dialogueActive (c .state) false
-    (ifLt (c .service) services
-    (ifB (peerKept c)
-    (ifLt mostRejects (c .count) false
-    (ifB (invocationsKept (c .invocations)) (rejectsKept (c .count) (c .rejects)) false))
-    false)
-    false)
-
 -- "waiting octets are whole components, well formed and with the pieces that Coding gives"
 unfoldable pub isSoundItem : Item → Bool
 isSoundItem i = eqb (i .part .fault) noFault
@@ -77,24 +63,37 @@ isSoundItem i = eqb (i .part .fault) noFault
 unfoldable pub waitingKept : List ℕ → Bool
 waitingKept w = ifEq (length w) 0 true (every isSoundItem (components w (length w) 0))
 
--- a place with a dialogue; its bit of the map is clear
-unfoldable pub usedKept : List ℕ → ℕ → Bool
-usedKept s bit =
-    ifEq bit 0
-    (ifB (controlKept (placeBy s .control))
-    (ifLt mostWaiting (getD s waitingLengthAt 0) false
-    (ifB (zeros (drop (waitingStart + getD s waitingLengthAt 0) s)) (waitingKept (placeBy s .waiting)) false))
-    false)
-    false
+-- WHAT A DIALOGUE'S PLACE KEEPS: "states, services, classes and lengths are in range" and the rest, a test of its record each
+abbrev pub dialogueRules : List (Place → Bool)
+dialogueRules =
+    (λ x. leb (x .control .state) dialogueActive)
+    ∷ (λ x. ltb (x .control .service) services)
+    ∷ (λ x. peerKept (x .control))
+    ∷ (λ x. leb (x .control .count) mostRejects)
+    ∷ (λ x. invocationsKept (x .control .invocations))
+    ∷ (λ x. rejectsKept (x .control .count) (x .control .rejects))
+    ∷ (λ x. leb (length (x .waiting)) mostWaiting)
+    ∷ (λ x. waitingKept (x .waiting))
+    ∷ []
 
--- "the map agrees with the places"
-unfoldable pub placeKept : List ℕ → ℕ → Bool
-placeKept t p =
-    ifEq (getD (slot t p) stateAt 0) dialogueFree (freeKept (slot t p) (mapBit t p)) (usedKept (slot t p) (mapBit t p))
+unfoldable pub dialogueKept : Place → Bool
+dialogueKept x = every (λ r. r x) dialogueRules
+
+-- "a free place is all zero but its turn"
+unfoldable pub placeKept : Place → Bool
+placeKept x = ifEq (x .control .state) dialogueFree (zeros (drop stateAt (placeOctets x))) (dialogueKept x)
 
 -- "shares as for 13; nobody above the limit; free places at least the sum of unused guarantees"
 unfoldable pub tableShares : Table → Bool
 tableShares T = sharesKept (dialogues T)
 
+-- the same octets
+unfoldable pub alike : List ℕ → List ℕ → Bool
+alike [] [] = true
+alike [] (y ∷ m) = false
+alike (x ∷ l) [] = false
+alike (x ∷ l) (y ∷ m) = ifEq x y (alike l m) false
+
+-- "octets .. not in use are zero", "the map agrees with the places": no octet is other than where the records are laid out
 unfoldable pub rules : List ℕ → Bool
-rules t = ifB (all (placeKept t) placesInAll) (tableShares (view t)) false
+rules t = ifB (alike (encode (view t)) t) (ifB (all (λ p. placeKept (placeAt (view t) p)) placesInAll) (tableShares (view t)) false) false

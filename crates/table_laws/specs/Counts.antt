@@ -2,20 +2,23 @@
 use mathlib.Core.Path.{_≡_, refl, sym, ap, subst, _∙_}
 use mathlib.Core.Bool.{Bool, true, false, cond}
 use mathlib.Core.List.{List, [], _∷_, map}
-use Prim.Native.Nat.{ℕ, zero, suc, _+_, _<_}
+use Prim.Native.Nat.{ℕ, zero, suc, _+_, _-_, _<_}
 use native.Mathlib.Omega.{arith}
 use lib.Dec.{eqb, ltb, leb}
 use borrow.Author.Tests.{eqb-true, eqb-false, ltb-true, ltb-false, le-leb, lt-leb}
 use lib.ListN.{length, getD, take}
-use Rattle.laws.specs.If.{ifEq, ifB, ne, yes, no}
+use Rattle.laws.specs.If.{ifEq, ifB, ne, yes, no, all}
 use Rattle.laws.specs.Sums.{sum, sum-ext, sum-plus, sum-zero, sumBy}
 use Rattle.laws.specs.Lists.{firstAt, sum-tab}
-use Rattle.laws.specs.Digits.{octetDigits, lowest}
+use Rattle.laws.specs.Digits.{octetDigits, lowest, count}
 use Rattle.paper.specs.Dialogues.{Place, emptyPlace}
-use Rattle.paper.specs.Calls.{Table, placeAt, isFree, isOf, held, lowestFree}
-use Rattle.paper.specs.Layout.{flag, placeBy, slot, view}
-use Rattle.table_laws.specs.Fine.{Fine}
+use Rattle.paper.specs.Sizes.{placesInAll}
+use Rattle.paper.specs.Shares.{free}
+use Rattle.paper.specs.Calls.{Table, placeAt, isFree, isOf, held, dialogues, lowestFree}
+use Rattle.paper.specs.Layout.{flag, mapSize, tableSize, placeBy, slot, view}
+use Rattle.table_laws.specs.Fine.{Octets, FinePlace, Fine}
 use Rattle.table_laws.specs.Slots.{flag-free, flag-used}
+use Rattle.table_laws.specs.Whole.{slotAtKept, view-length, view-fine, view-each, view-bits, encode-view}
 use Rattle.table_laws.specs.Ready.{Ready, ready-bits}
 
 -- ---- the lowest bit that is set is the first free place
@@ -72,8 +75,29 @@ held-free (x ∷ ps) n h =
       held-free ps n (λ i l. h (suc i) (omega arith)),
     )
 
+-- ---- the bits that are set are the free places
+count-free : (ps : List Place) → count (map flag ps) ≡ sumBy flag ps
+unfolding count
+count-free [] = refl
+count-free (x ∷ ps) = ap (λ (n : ℕ). flag x + n) (count-free ps)
+
+-- where each place is fine: every place is a service's or free, and the map's bits that are set are those that no service holds
+module _ (t : List ℕ) (each : (p : ℕ) → p < 128 → FinePlace (placeAt (view t) p)) where
+  pub places-all : sum (held (view t .places)) 16 + sumBy flag (view t .places) ≡ 128
+  places-all = held-free (view t .places) 16 (λ i l. each i (omega (arith, view-length t)) .control .service) ∙ view-length t
+
+  pub map-count : octetDigits (take mapSize t) ≡ map flag (view t .places) → count (octetDigits (take mapSize t)) ≡ free (dialogues (view t))
+  map-count e = ap count e ∙ count-free (view t .places) ∙ less (sum (held (view t .places)) 16) (sumBy flag (view t .places)) places-all
+    where
+      less : (n m : ℕ) → n + m ≡ 128 → m ≡ 128 - n
+      less n m h = omega arith
+
 pub all-places : (T : Table) → Fine T → sum (held (T .places)) 16 + sumBy flag (T .places) ≡ 128
 all-places T f = held-free (T .places) 16 (λ i l. f .each i (omega (arith, f .places)) .control .service) ∙ f .places
+
+-- where each place passes, before the shares are judged
+pub walk-count : (t : List ℕ) → Octets t → length t ≡ tableSize → all (slotAtKept t) placesInAll ≡ true → count (octetDigits (take mapSize t)) ≡ free (dialogues (view t))
+walk-count t o e k = map-count t (λ p h. view-fine t e o (encode-view t e o k) p h (view-each t e o k p h)) (view-bits t e o k)
 
 -- ---- where a place is free, the lowest is there, and free
 pub first-there : (ps : List Place) → 0 < sumBy flag ps → firstAt isFree ps < length ps

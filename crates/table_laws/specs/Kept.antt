@@ -1,23 +1,23 @@
--- THE TESTS OF A PLACE (paper's Rules) hold exactly where its record is fine. Assumes nothing.
+-- THE TESTS OF A DIALOGUE (paper's Rules) hold exactly where its record is fine. Assumes nothing.
 use mathlib.Core.Path.{_≡_, refl, sym, ap, _∙_}
 use mathlib.Core.Bool.{Bool, true, false}
 use mathlib.Core.List.{List, [], _∷_}
 use Prim.Native.Nat.{ℕ, zero, suc, _-_, _<_, _≤_}
 use native.Mathlib.Omega.{arith}
 use lib.Dec.{eqb, ltb, leb}
-use borrow.Author.Tests.{eqb-true, eqb-false, leb-true, ltb-true, ltb-false, eq-eqb, ne-eqb, le-leb}
+use borrow.Author.Tests.{eqb-true, eqb-false, leb-true, ltb-true, ltb-false, eq-eqb, ne-eqb, lt-ltb, le-leb}
 use lib.ListN.{length, getD, drop}
 use Rattle.laws.specs.If.{ifLt, ifEq, ifB, lt, ge, eq, ne, yes, no, was-lt, was-ge, was-eq, was-yes, by-eq, true-false}
-use Rattle.laws.specs.Lists.{zeros}
+use Rattle.laws.specs.Lists.{zeros, every}
 use Rattle.paper.specs.declared.Invocation.{Invocation}
 use Rattle.paper.specs.declared.Reject.{Reject}
 use Rattle.paper.specs.declared.Control.{Control}
 use Rattle.paper.specs.Problems.{senderOf, senderOfProblem, byLayer, byUser, byNobody, kindOf}
 use Rattle.paper.specs.Invocations.{noInvocation, isOpen, slotOf}
-use Rattle.paper.specs.Dialogues.{noReject}
-use Rattle.paper.specs.Rules.{invocationKept, differs, invocationsKept, rejectKept, rejectZero, rejectsKept, hasPeer, peerKept, controlKept}
+use Rattle.paper.specs.Dialogues.{Place, noReject}
+use Rattle.paper.specs.Rules.{invocationKept, differs, invocationsKept, rejectKept, rejectZero, rejectsKept, hasPeer, peerKept, dialogueKept}
 use Rattle.table_laws.specs.Zeros.{none-passes, no-first}
-use Rattle.table_laws.specs.Fine.{FineInvocation, FineInvocations, FineReject, FineRejects, FinePeer, FineControl}
+use Rattle.table_laws.specs.Fine.{FineInvocation, FineInvocations, FineReject, FineRejects, FinePeer, FinePlace}
 
 -- ---- an invocation
 pub same-invocation : (v w : Invocation) → v .id ≡ w .id → v .class ≡ w .class → v .state ≡ w .state → v .shown ≡ w .shown → v ≡ w
@@ -282,35 +282,47 @@ peer-kept c f = go (hasPeer (c .state)) refl
         let z : c .peerlen ≡ 0 = f .none q in
         sym (no _ _ _ q (eq _ _ _ _ z (sym (ap (λ (n : ℕ). zeros (drop n (c .peer))) (sym z) ∙ f .rest))))
 
--- ---- the control record
-pub control-is : (c : Control) → c .turn < 16777216 → length (c .peer) ≡ 4 → length (c .invocations) ≡ 8 → length (c .rejects) ≡ 8
-    → controlKept c ≡ true → FineControl c
-unfolding controlKept
-control-is c t p v r e =
-    let x4 : Bool = ifB (invocationsKept (c .invocations)) (rejectsKept (c .count) (c .rejects)) false in
-    let x3 : Bool = ifLt 8 (c .count) false x4 in
-    let x2 : Bool = ifB (peerKept c) x3 false in
-    let x1 : Bool = ifLt (c .service) 16 x2 false in
-    let a = was-ge 4 (c .state) false x1 (sym e) true-false in
-    let b = was-lt (c .service) 16 x2 false (a .1) true-false in
-    let d = was-yes (peerKept c) x3 false (b .1) true-false in
-    let f = was-ge 8 (c .count) false x4 (d .1) true-false in
-    let g = was-yes (invocationsKept (c .invocations)) (rejectsKept (c .count) (c .rejects)) false (f .1) true-false in
+-- ---- THE DIALOGUE, test by test
+pub dialogue-is : (x : Place) → x .control .turn < 16777216 → length (x .control .peer) ≡ 4 → length (x .control .invocations) ≡ 8 → length (x .control .rejects) ≡ 8
+    → (x .control .state ≡ 0 → ⊥) → dialogueKept x ≡ true → FinePlace x
+unfolding dialogueKept every
+dialogue-is x t p v r n e =
+    let c : Control = x .control in
+    let state = was-yes _ _ _ (sym e) true-false in
+    let service = was-yes _ _ _ (state .1) true-false in
+    let peer = was-yes _ _ _ (service .1) true-false in
+    let count = was-yes _ _ _ (peer .1) true-false in
+    let invocations = was-yes _ _ _ (count .1) true-false in
+    let rejects = was-yes _ _ _ (invocations .1) true-false in
+    let room = was-yes _ _ _ (rejects .1) true-false in
+    let whole = was-yes _ _ _ (room .1) true-false in
     record {
-      turn = t;
-      state = omega (arith, a .0);
-      service = b .0;
-      four = p;
-      peer = peer-is c (d .0);
-      count = f .0;
-      eight = v;
-      invocations = invocations-are (c .invocations) (g .0);
-      eights = r;
-      rejects = rejects-are (c .count) (c .rejects) (sym (g .1));
+      control = record {
+        turn = t;
+        state = omega (arith, leb-true (c .state) 4 (state .0));
+        service = ltb-true (c .service) 16 (service .0);
+        four = p;
+        peer = peer-is c (peer .0);
+        count = leb-true (c .count) 8 (count .0);
+        eight = v;
+        invocations = invocations-are (c .invocations) (invocations .0);
+        eights = r;
+        rejects = rejects-are (c .count) (c .rejects) (rejects .0);
+      };
+      room = leb-true (length (x .waiting)) 240 (room .0);
+      whole = whole .0;
+      free = λ z. absurd (n z);
     }
 
-pub control-kept : (c : Control) → FineControl c → controlKept c ≡ true
-unfolding controlKept
-control-kept c f =
-    sym (ge _ _ _ _ (omega (arith, f .state)) (lt _ _ _ _ (f .service) (yes _ _ _ (peer-kept c (f .peer)) (ge _ _ _ _ (f .count)
-    (yes _ _ _ (invocations-kept (c .invocations) (f .invocations)) (sym (rejects-kept (c .count) (c .rejects) (f .rejects))))))))
+pub dialogue-kept : (x : Place) → FinePlace x → dialogueKept x ≡ true
+unfolding dialogueKept every
+dialogue-kept x g =
+    let c : Control = x .control in
+    let f = g .control in
+    sym (yes _ _ _ (le-leb (c .state) 4 (omega (arith, f .state)))
+    (yes _ _ _ (lt-ltb (c .service) 16 (f .service))
+    (yes _ _ _ (peer-kept c (f .peer))
+    (yes _ _ _ (le-leb (c .count) 8 (f .count))
+    (yes _ _ _ (invocations-kept (c .invocations) (f .invocations))
+    (yes _ _ _ (rejects-kept (c .count) (c .rejects) (f .rejects))
+    (yes _ _ _ (le-leb (length (x .waiting)) 240 (g .room)) (yes _ _ _ (g .whole) refl))))))))

@@ -42,17 +42,24 @@ rejects-small n l f i h = go (ltb i n) refl
 pub also : {P Q : Type 0} → P → Q → P × Q
 also p q = (p, q)
 
-place-sized : (x : Place) → FineControl (x .control) → Sized placeFields x
-place-sized x f =
-    let i : length (x .control .invocations) ≡ mostInvocations = f .eight in
-    let r : length (x .control .rejects) ≡ mostRejects = f .eights in
-    also refl (also refl (also refl (also refl (also (f .four) (also refl (also refl
+lists-sized : (x : Place) → length (x .control .peer) ≡ 4 → length (x .control .invocations) ≡ mostInvocations → length (x .control .rejects) ≡ mostRejects
+    → Sized placeFields x
+lists-sized x p i r =
+    also refl (also refl (also refl (also refl (also p (also refl (also refl
     (also (omega (arith, i, pairs-length (λ v. v .id) invocationMark invocationBy (x .control .invocations)))
     (also (omega (arith, r, pairs-length (λ v. v .id % 256) rejectMark rejectBy (x .control .rejects)))
     (also (pad-length mostWaiting (x .waiting)) tt)))))))))
 
+place-sized : (x : Place) → FineControl (x .control) → Sized placeFields x
+place-sized x f = lists-sized x (f .four) (f .eight) (f .eights)
+
 pub placeOctets-length : (x : Place) → FineControl (x .control) → length (placeOctets x) ≡ placeSize
 placeOctets-length x f = laid-length placeFields x (place-sized x f)
+
+-- of a place that was read too, whatever it holds
+pub read-length : (s : List ℕ) → length (placeOctets (placeBy s)) ≡ placeSize
+unfolding placeBy
+read-length s = laid-length placeFields (placeBy s) (lists-sized (placeBy s) refl refl refl)
 
 -- all but the last: a control record, and how many octets wait
 abbrev beforeWaiting : Place → List ℕ

@@ -1,4 +1,4 @@
--- A PLACE'S OCTETS AND ITS BIT keep the rules exactly where they are those of a fine place. Assumes nothing.
+-- A PLACE'S OCTETS AND ITS BIT, walked over as the code does, pass exactly where they are those of a fine place. Assumes nothing.
 use mathlib.Core.Path.{_≡_, refl, sym, ap, subst, _∙_}
 use mathlib.Core.Bool.{Bool, true, false}
 use mathlib.Core.List.{List, _∷_, _++_}
@@ -12,14 +12,15 @@ use Rattle.laws.specs.If.{ifLt, ifEq, ifB, ge, eq, ne, yes, no, was-ge, was-eq,
 use Rattle.laws.specs.Lists.{zeros, span-drop}
 use Rattle.paper.specs.declared.Invocation.{Invocation}
 use Rattle.paper.specs.Invocations.{noInvocation}
-use Rattle.paper.specs.Dialogues.{Place, emptyPlace, noReject}
+use Rattle.paper.specs.Sizes.{mostWaiting}
+use Rattle.paper.specs.Dialogues.{Place, emptyPlace, noReject, dialogueFree}
 use Rattle.paper.specs.Calls.{isFree}
-use Rattle.paper.specs.Layout.{placeOctets, placeBy, flag}
-use Rattle.paper.specs.Rules.{controlKept, hasPeer, waitingKept, freeKept, usedKept}
+use Rattle.paper.specs.Layout.{placeOctets, placeSize, stateAt, waitingLengthAt, waitingStart, placeBy, flag}
+use Rattle.paper.specs.Rules.{hasPeer, waitingKept, dialogueKept, placeKept}
 use Rattle.table_laws.specs.Zeros.{zeros-are, zeros-of, pad-none, pad-rest}
 use Rattle.table_laws.specs.Fine.{Octets, FineInvocation, FineInvocations, FineRejects, FinePlace}
-use Rattle.table_laws.specs.Kept.{control-is, control-kept}
-use Rattle.table_laws.specs.Octets.{slot-turn, slot-waits, slot-back, place-back, length-at, waiting-at}
+use Rattle.table_laws.specs.Kept.{dialogue-is, dialogue-kept}
+use Rattle.table_laws.specs.Octets.{slot-turn, slot-back, place-back, length-at, waiting-at}
 
 -- ---- free or used
 pub flag-free : (x : Place) → x .control .state ≡ 0 → flag x ≡ 1
@@ -76,90 +77,93 @@ empty-fine turn h = record {
   free = λ z. refl;
 }
 
--- ---- FROM OCTETS
--- what a place that keeps the rules is
+-- ---- THE WALK that the code makes over a place's octets and its bit of the map: free, and all zero but its turn
+unfoldable pub freeKept : List ℕ → ℕ → Bool
+freeKept s bit = ifEq bit 1 (zeros (drop stateAt s)) false
+
+-- or used: n waiting octets, zeros after them, and what a dialogue keeps
+unfoldable pub usedKept : List ℕ → ℕ → Bool
+usedKept s bit =
+    ifEq bit 0
+    (ifLt mostWaiting (getD s waitingLengthAt 0) false (ifB (zeros (drop (waitingStart + getD s waitingLengthAt 0) s)) (dialogueKept (placeBy s)) false))
+    false
+
+abbrev pub slotKept : List ℕ → ℕ → Bool
+slotKept s bit = ifEq (getD s stateAt 0) dialogueFree (freeKept s bit) (usedKept s bit)
+
+-- ---- FROM OCTETS: what a place that passes is
 pub record KeptSlot (s : List ℕ) (bit : ℕ) : Type 0 where
-  pub fine : FinePlace (placeBy s)
+  pub kept : placeKept (placeBy s) ≡ true
   pub same : placeOctets (placeBy s) ≡ s
   pub told : bit ≡ flag (placeBy s)
 
-abbrev pub slotKept : List ℕ → ℕ → Bool
-slotKept s bit = ifEq (getD s 3 0) 0 (freeKept s bit) (usedKept s bit)
-
-module _ (s : List ℕ) (bit : ℕ) (e : length s ≡ 284) (h : Octets s) where
+module _ (s : List ℕ) (e : length s ≡ placeSize) (h : Octets s) where
   -- "a free place is all zero but its turn"
-  blank : zeros (drop 3 s) ≡ true → s ≡ getD s 0 0 ∷ getD s 1 0 ∷ getD s 2 0 ∷ replicate 281 0
+  blank : zeros (drop stateAt s) ≡ true → s ≡ getD s 0 0 ∷ getD s 1 0 ∷ getD s 2 0 ∷ replicate 281 0
   blank z =
-      let n : length (drop 3 s) ≡ 281 = simp length-drop (omega arith) in
-      sym (span-drop 3 0 s (omega arith))
-      ∙ ap (λ (l : List ℕ). getD s 0 0 ∷ getD s 1 0 ∷ getD s 2 0 ∷ l) (zeros-are (drop 3 s) z ∙ ap (λ (k : ℕ). replicate k 0) n)
+      let n : length (drop stateAt s) ≡ 281 = simp length-drop (omega arith) in
+      sym (span-drop stateAt 0 s (omega arith))
+      ∙ ap (λ (l : List ℕ). getD s 0 0 ∷ getD s 1 0 ∷ getD s 2 0 ∷ l) (zeros-are (drop stateAt s) z ∙ ap (λ (k : ℕ). replicate k 0) n)
 
-  empty-by : zeros (drop 3 s) ≡ true → placeBy s ≡ emptyPlace (placeBy s .control .turn)
+  empty-by : zeros (drop stateAt s) ≡ true → placeBy s ≡ emptyPlace (placeBy s .control .turn)
   unfolding placeBy
   empty-by z = ap placeBy (blank z)
 
-  free-slot : getD s 3 0 ≡ 0 → freeKept s bit ≡ true → KeptSlot s bit
-  unfolding freeKept placeBy
-  free-slot st q =
-      let a = was-eq bit 1 (zeros (drop 3 s)) false (sym q) true-false in
-      let z : zeros (drop 3 s) ≡ true = sym (a .1) in
-      let n : getD s 10 0 ≡ 0 = ap (λ (l : List ℕ). getD l 10 0) (blank z) in
-      record {
-        fine = subst FinePlace (sym (empty-by z)) (empty-fine (placeBy s .control .turn) (slot-turn s e h));
-        same = slot-back s e h (omega arith) (ap (λ (k : ℕ). zeros (drop (44 + k) s)) n ∙ ap (λ (l : List ℕ). zeros (drop 44 l)) (blank z) ∙ zeros-of 240);
-        told = a .0 ∙ sym (flag-free (placeBy s) st);
-      }
+  -- a place whose octets are its record's is fine where its record passes
+  pub place-is : placeOctets (placeBy s) ≡ s → placeKept (placeBy s) ≡ true → FinePlace (placeBy s)
+  unfolding placeKept placeBy
+  place-is q k =
+      by-eq _ _ _ _ (sym k)
+      (λ st w. subst FinePlace (sym (empty-by (ap (λ (l : List ℕ). zeros (drop stateAt l)) (sym q) ∙ sym w))) (empty-fine (placeBy s .control .turn) (slot-turn s e h)))
+      (λ st w. dialogue-is (placeBy s) (slot-turn s e h) refl refl refl st (sym w))
 
-  used-slot : (getD s 3 0 ≡ 0 → ⊥) → usedKept s bit ≡ true → KeptSlot s bit
-  unfolding usedKept placeBy
-  used-slot st q =
-      let x3 : Bool = ifB (zeros (drop (44 + getD s 10 0) s)) (waitingKept (placeBy s .waiting)) false in
-      let x2 : Bool = ifLt 240 (getD s 10 0) false x3 in
-      let x1 : Bool = ifB (controlKept (placeBy s .control)) x2 false in
-      let a = was-eq bit 0 x1 false (sym q) true-false in
-      let b = was-yes (controlKept (placeBy s .control)) x2 false (a .1) true-false in
-      let c = was-ge 240 (getD s 10 0) false x3 (b .1) true-false in
-      let d = was-yes (zeros (drop (44 + getD s 10 0) s)) (waitingKept (placeBy s .waiting)) false (c .1) true-false in
-      record {
-        fine =
-            record {
-              control = control-is (placeBy s .control) (slot-turn s e h) refl refl refl (b .0);
-              room = omega (arith, slot-waits s e h (c .0), c .0);
-              whole = sym (d .1);
-              free = λ z. absurd (st z);
-            };
-        same = slot-back s e h (c .0) (d .0);
-        told = a .0 ∙ sym (flag-used (placeBy s) st);
-      }
+  module _ (bit : ℕ) where
+    free-slot : getD s stateAt 0 ≡ 0 → freeKept s bit ≡ true → KeptSlot s bit
+    unfolding freeKept placeKept placeBy
+    free-slot st q =
+        let a = was-eq bit 1 (zeros (drop stateAt s)) false (sym q) true-false in
+        let z : zeros (drop stateAt s) ≡ true = sym (a .1) in
+        let n : getD s waitingLengthAt 0 ≡ 0 = ap (λ (l : List ℕ). getD l waitingLengthAt 0) (blank z) in
+        let b : placeOctets (placeBy s) ≡ s =
+        slot-back s e h (omega arith) (ap (λ (k : ℕ). zeros (drop (waitingStart + k) s)) n ∙ ap (λ (l : List ℕ). zeros (drop waitingStart l)) (blank z) ∙ zeros-of mostWaiting) in
+        record { kept = sym (eq _ _ _ _ st (sym (ap (λ (l : List ℕ). zeros (drop stateAt l)) b ∙ z))); same = b; told = a .0 ∙ sym (flag-free (placeBy s) st) }
 
-  pub slot-is : slotKept s bit ≡ true → KeptSlot s bit
-  slot-is q = by-eq _ _ _ _ (sym q) (λ st w. free-slot st (sym w)) (λ st w. used-slot st (sym w))
+    used-slot : (getD s stateAt 0 ≡ 0 → ⊥) → usedKept s bit ≡ true → KeptSlot s bit
+    unfolding usedKept placeKept placeBy
+    used-slot st q =
+        let a = was-eq _ _ _ _ (sym q) true-false in
+        let c = was-ge _ _ _ _ (a .1) true-false in
+        let d = was-yes _ _ _ (c .1) true-false in
+        record { kept = sym (ne _ _ _ _ st (d .1)); same = slot-back s e h (c .0) (d .0); told = a .0 ∙ sym (flag-used (placeBy s) st) }
+
+    pub slot-is : slotKept s bit ≡ true → KeptSlot s bit
+    slot-is q = by-eq _ _ _ _ (sym q) (λ st w. free-slot st (sym w)) (λ st w. used-slot st (sym w))
 
 -- ---- FROM A RECORD
 module _ (x : Place) (f : FinePlace x) where
-  blank-octets : x .control .state ≡ 0 → zeros (drop 3 (placeOctets x)) ≡ true
+  blank-octets : x .control .state ≡ 0 → zeros (drop stateAt (placeOctets x)) ≡ true
   blank-octets st =
-      ap (λ (y : Place). zeros (drop 3 (placeOctets y))) (f .free st)
-      ∙ ap (λ (l : List ℕ). zeros (replicate 41 0 ++ l)) (pad-none 240)
+      ap (λ (y : Place). zeros (drop stateAt (placeOctets y))) (f .free st)
+      ∙ ap (λ (l : List ℕ). zeros (replicate 41 0 ++ l)) (pad-none mostWaiting)
       ∙ zeros-of 281
 
-  zero-octets : zeros (drop (44 + getD (placeOctets x) 10 0) (placeOctets x)) ≡ true
+  zero-octets : zeros (drop (waitingStart + getD (placeOctets x) waitingLengthAt 0) (placeOctets x)) ≡ true
   zero-octets =
-      ap (λ (k : ℕ). zeros (drop (44 + k) (placeOctets x))) (length-at x (f .control))
-      ∙ ap zeros (sym (drop-drop (length (x .waiting)) 44 (placeOctets x)) ∙ ap (drop (length (x .waiting))) (waiting-at x (f .control)))
-      ∙ pad-rest 240 (x .waiting) (f .room) .1
+      ap (λ (k : ℕ). zeros (drop (waitingStart + k) (placeOctets x))) (length-at x (f .control))
+      ∙ ap zeros (sym (drop-drop (length (x .waiting)) waitingStart (placeOctets x)) ∙ ap (drop (length (x .waiting))) (waiting-at x (f .control)))
+      ∙ pad-rest mostWaiting (x .waiting) (f .room) .1
+
+  -- free or used
+  by-state : {P : Type 0} → (x .control .state ≡ 0 → P) → ((x .control .state ≡ 0 → ⊥) → P) → P
+  by-state p q = by-eq {r = ifEq (x .control .state) 0 x x} _ _ _ _ refl (λ a _. p a) (λ a _. q a)
+
+  pub fine-place : placeKept x ≡ true
+  unfolding placeKept
+  fine-place = by-state (λ st. sym (eq _ _ _ _ st (sym (blank-octets st)))) (λ st. sym (ne _ _ _ _ st (sym (dialogue-kept x f))))
 
   pub fine-kept : slotKept (placeOctets x) (flag x) ≡ true
   unfolding freeKept usedKept
-  fine-kept = go (eqb (x .control .state) 0) refl
-    where
-      go : (b : Bool) → eqb (x .control .state) 0 ≡ b → slotKept (placeOctets x) (flag x) ≡ true
-      go true q =
-          let st : x .control .state ≡ 0 = eqb-true (x .control .state) 0 q in
-          sym (eq _ _ _ _ st (eq _ _ _ _ (flag-free x st) (sym (blank-octets st))))
-      go false q =
-          let st : x .control .state ≡ 0 → ⊥ = eqb-false (x .control .state) 0 q in
-          let r : placeBy (placeOctets x) ≡ x = place-back x (f .control) (f .room) in
-          let k : controlKept (placeBy (placeOctets x) .control) ≡ true = ap (λ (y : Place). controlKept (y .control)) r ∙ control-kept (x .control) (f .control) in
-          let w : waitingKept (placeBy (placeOctets x) .waiting) ≡ true = ap (λ (y : Place). waitingKept (y .waiting)) r ∙ f .whole in
-          sym (ne _ _ _ _ st (eq _ _ _ _ (flag-used x st) (yes _ _ _ k (ge _ _ _ _ (omega (arith, length-at x (f .control), f .room)) (yes _ _ _ zero-octets (sym w))))))
+  fine-kept =
+      by-state (λ st. sym (eq _ _ _ _ st (eq _ _ _ _ (flag-free x st) (sym (blank-octets st)))))
+      (λ st. sym (ne _ _ _ _ st (eq _ _ _ _ (flag-used x st) (ge _ _ _ _ (omega (arith, length-at x (f .control), f .room))
+      (yes _ _ _ zero-octets (sym (ap dialogueKept (place-back x (f .control) (f .room)) ∙ dialogue-kept x f)))))))

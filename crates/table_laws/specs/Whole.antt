@@ -12,12 +12,16 @@ use Rattle.laws.specs.Digits.{digits, octetDigits, packedOctets, Binary, packed
 use Rattle.laws.specs.Fields.{offset, Sized, laid-length, laid-drop, field-at, laid-from, Alike, records-length, record-at, records-from}
 use Rattle.paper.specs.Dialogues.{Place, emptyPlace}
 use Rattle.paper.specs.Calls.{Table, isFree, placeAt}
-use Rattle.paper.specs.Sizes.{placesInAll}
-use Rattle.paper.specs.Layout.{placeStart, placeOctets, placeSize, flag, mapSize, mapOctets, tableFields, tableSize, encode, placeBy, slot, view, mapBit}
+use Rattle.paper.specs.Sizes.{placesInAll, services}
+use Rattle.paper.specs.Layout.{placeStart, placeOctets, placeSize, flag, mapSize, mapOctets, tableFields, tableSize, guaranteesAt, limitsAt, encode, placeBy, slot, view, mapBit}
 use Rattle.paper.specs.Rules.{placeKept}
 use Rattle.table_laws.specs.Fine.{Octets, FinePlace, Fine}
-use Rattle.table_laws.specs.Octets.{also, placeOctets-length, place-back}
-use Rattle.table_laws.specs.Slots.{KeptSlot, slotKept, slot-is, fine-kept}
+use Rattle.table_laws.specs.Octets.{also, placeOctets-length, read-length, place-back}
+use Rattle.table_laws.specs.Slots.{KeptSlot, slotKept, slot-is, place-is, fine-kept}
+
+-- place p, walked over
+unfoldable pub slotAtKept : List ℕ → ℕ → Bool
+slotAtKept t p = slotKept (slot t p) (mapBit t p)
 
 -- ---- the map
 flag-two : (x : Place) → flag x < 2
@@ -63,25 +67,33 @@ map-store ps p b x e h o q =
     let n : length (set m (p / 8) b) ≡ mapSize = length-set m (p / 8) b ∙ map-length ps in
     sym (octets-of (set m (p / 8) b) o) ∙ ap (λ (k : ℕ). packedOctets k (octetDigits (set m (p / 8) b))) n ∙ ap (packedOctets mapSize) d
 
--- ---- FROM RECORDS
+-- ---- FROM RECORDS, where each has its length
+module _ (T : Table) (g : length (T .guarantees) ≡ services) (l : length (T .limits) ≡ services) (n : length (T .places) ≡ placesInAll)
+    (fit : Alike placeOctets placeSize (emptyPlace 0) (T .places)) where
+  lists-sized : Sized tableFields T
+  lists-sized =
+      also (map-length (T .places)) (also g (also l
+      (also (records-length placeOctets placeSize (emptyPlace 0) (T .places) fit ∙ ap (λ (n : ℕ). n * placeSize) n) tt)))
+
+  lists-slot : (p : ℕ) → p < placesInAll → slot (encode T) p ≡ placeOctets (placeAt T p)
+  unfolding encode slot
+  lists-slot p h =
+      ap (take placeSize) (sym (drop-drop (p * placeSize) (offset tableFields 3) (encode T)) ∙ ap (drop (p * placeSize)) (laid-drop tableFields T lists-sized 3))
+      ∙ record-at placeOctets placeSize (emptyPlace 0) (T .places) fit p (omega (arith, n))
+
 module _ (T : Table) (f : Fine T) where
   pub fine-fit : Alike placeOctets placeSize (emptyPlace 0) (T .places)
   fine-fit p h = placeOctets-length (placeAt T p) (f .each p (omega (arith, f .places)) .control)
 
   pub table-sized : Sized tableFields T
-  table-sized =
-      also (map-length (T .places)) (also (f .guarantees) (also (f .limits)
-      (also (records-length placeOctets placeSize (emptyPlace 0) (T .places) fine-fit ∙ ap (λ (n : ℕ). n * placeSize) (f .places)) tt)))
+  table-sized = lists-sized T (f .guarantees) (f .limits) (f .places) fine-fit
 
   pub encode-length : length (encode T) ≡ tableSize
   unfolding encode
   encode-length = laid-length tableFields T table-sized
 
   pub encode-slot : (p : ℕ) → p < placesInAll → slot (encode T) p ≡ placeOctets (placeAt T p)
-  unfolding encode slot
-  encode-slot p h =
-      ap (take placeSize) (sym (drop-drop (p * placeSize) (offset tableFields 3) (encode T)) ∙ ap (drop (p * placeSize)) (laid-drop tableFields T table-sized 3))
-      ∙ record-at placeOctets placeSize (emptyPlace 0) (T .places) fine-fit p (omega (arith, f .places))
+  encode-slot p h = lists-slot T (f .guarantees) (f .limits) (f .places) fine-fit p h
 
   pub encode-bits : octetDigits (take mapSize (encode T)) ≡ map flag (T .places)
   unfolding encode
@@ -100,8 +112,8 @@ module _ (T : Table) (f : Fine T) where
       ∙ tab-all placesInAll (T .places) (emptyPlace 0) (f .places) in
       rw (field-at tableFields T table-sized 1, field-at tableFields T table-sized 2, c)
 
-  pub encode-kept : (p : ℕ) → p < placesInAll → placeKept (encode T) p ≡ true
-  unfolding placeKept
+  pub encode-kept : (p : ℕ) → p < placesInAll → slotAtKept (encode T) p ≡ true
+  unfolding slotAtKept
   encode-kept p h =
       ap (λ (s : List ℕ). slotKept s (mapBit (encode T) p)) (encode-slot p h)
       ∙ ap (slotKept (placeOctets (placeAt T p))) (encode-bit p h)
@@ -131,17 +143,42 @@ module _ (t : List ℕ) (e : length t ≡ tableSize) where
   unfolding slot
   slot-length p h = length-take-le placeSize (drop (placeStart p) t) (simp length-drop (omega arith))
 
-  module _ (o : Octets t) (k : all (placeKept t) placesInAll ≡ true) where
-    kept-each : (p : ℕ) → p < placesInAll → KeptSlot (slot t p) (mapBit t p)
-    unfolding placeKept slot
-    kept-each p h =
-        slot-is (slot t p) (mapBit t p) (slot-length p h) (take-octets placeSize (drop (placeStart p) t) (drop-octets (placeStart p) t o)) (all-at (placeKept t) placesInAll p k h)
+  part-length : (a : ℕ) → a ≤ limitsAt → length (take services (drop a t)) ≡ services
+  part-length a h = length-take-le services (drop a t) (simp length-drop (omega arith))
 
-    pub view-each : (p : ℕ) → p < placesInAll → FinePlace (placeAt (view t) p)
-    view-each p h = subst FinePlace (sym (view-at t p h)) (kept-each p h .fine)
+  pub view-shares : (length (view t .guarantees) ≡ services) × (length (view t .limits) ≡ services)
+  unfolding view
+  view-shares = (part-length guaranteesAt (omega arith), part-length limitsAt (omega arith))
+
+  slot-octets : Octets t → (p : ℕ) → Octets (slot t p)
+  unfolding slot
+  slot-octets o p = take-octets placeSize (drop (placeStart p) t) (drop-octets (placeStart p) t o)
+
+  -- FROM RULES ON RECORDS: where the octets are the records', each place that passes is fine
+  module _ (o : Octets t) (same : encode (view t) ≡ t) (p : ℕ) (h : p < placesInAll) where
+    slot-same : placeOctets (placeBy (slot t p)) ≡ slot t p
+    slot-same =
+        ap placeOctets (sym (view-at t p h))
+        ∙ sym (lists-slot (view t) (view-shares .0) (view-shares .1) (view-length t)
+        (λ q g. ap (λ (x : Place). length (placeOctets x)) (view-at t q (omega (arith, view-length t))) ∙ read-length (slot t q)) p h)
+        ∙ ap (λ (u : List ℕ). slot u p) same
+
+    pub view-fine : placeKept (placeAt (view t) p) ≡ true → FinePlace (placeAt (view t) p)
+    view-fine k =
+        let e : placeAt (view t) p ≡ placeBy (slot t p) = view-at t p h in
+        subst FinePlace (sym e) (place-is (slot t p) (slot-length p h) (slot-octets o p) slot-same (ap placeKept (sym e) ∙ k))
+
+  -- FROM THE WALK
+  module _ (o : Octets t) (k : all (slotAtKept t) placesInAll ≡ true) where
+    kept-each : (p : ℕ) → p < placesInAll → KeptSlot (slot t p) (mapBit t p)
+    unfolding slotAtKept
+    kept-each p h = slot-is (slot t p) (slot-length p h) (slot-octets o p) (mapBit t p) (all-at (slotAtKept t) placesInAll p k h)
+
+    pub view-each : (p : ℕ) → p < placesInAll → placeKept (placeAt (view t) p) ≡ true
+    view-each p h = ap placeKept (view-at t p h) ∙ kept-each p h .kept
 
     -- the map's digits are the places' flags
-    view-bits : octetDigits (take mapSize t) ≡ map flag (view t .places)
+    pub view-bits : octetDigits (take mapSize t) ≡ map flag (view t .places)
     unfolding mapBit
     view-bits =
         let a : length (octetDigits (take mapSize t)) ≡ placesInAll = octetDigits-length (take mapSize t) ∙ ap (λ (n : ℕ). 8 * n) (length-take-le mapSize t (omega arith)) in

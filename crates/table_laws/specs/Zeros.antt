@@ -8,6 +8,7 @@ use lib.ListN.{length, getD, set, take, drop, replicate}
 use lib.Seq.{sets}
 use Rattle.laws.specs.If.{eq, yes, no, was-eq, true-false}
 use Rattle.laws.specs.Lists.{zeros, pad, firstAt}
+use Rattle.paper.specs.Rules.{alike}
 
 -- ---- zeros
 pub zero-cons : (x : ℕ) (l : List ℕ) → zeros (x ∷ l) ≡ true → (x ≡ 0) × (zeros l ≡ true)
@@ -34,6 +35,24 @@ zeros-are (x ∷ l) e =
 pub zeros-of : (n : ℕ) → zeros (replicate n 0) ≡ true
 zeros-of zero = zero-nil
 zeros-of (suc n) = zero-first (replicate n 0) (zeros-of n)
+
+-- ---- the same octets
+pub alike-is : (l m : List ℕ) → alike l m ≡ true → l ≡ m
+unfolding alike
+alike-is [] [] e = refl
+alike-is [] (y ∷ m) e = absurd (true-false (sym e))
+alike-is (x ∷ l) [] e = absurd (true-false (sym e))
+alike-is (x ∷ l) (y ∷ m) e =
+    let w = was-eq x y (alike l m) false (sym e) true-false in
+    ap (λ (n : ℕ). n ∷ l) (w .0) ∙ ap (λ (r : List ℕ). y ∷ r) (alike-is l m (sym (w .1)))
+
+alike-self : (l : List ℕ) → alike l l ≡ true
+unfolding alike
+alike-self [] = refl
+alike-self (x ∷ l) = sym (eq x x (alike l l) false refl (sym (alike-self l)))
+
+pub is-alike : (l m : List ℕ) → l ≡ m → alike l m ≡ true
+is-alike l m e = ap (alike l) (sym e) ∙ alike-self l
 
 -- ---- padding
 pub pad-length : (n : ℕ) (l : List ℕ) → length (pad n l) ≡ n

@@ -13,6 +13,7 @@ use paper::Reject;
 use paper::TURN;
 use paper::TURNS;
 ghost use mathlib.Core.Path.{_≡_};
+ghost use mathlib.Core.List.{[]};
 ghost use Prim.Native.Nat.{_%_, _≤_, _<_};
 ghost use lib.ListN.{length, getD};
 ghost use Rattle.laws.specs.Parts.{over};

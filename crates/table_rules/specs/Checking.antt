@@ -8,22 +8,24 @@ use lib.Dec.{eqb}
 use borrow.Author.Tests.{eqb-true, eqb-false}
 use lib.ListN.{length, getD}
 use Rattle.laws.specs.If.{ifEq, ifB, all, lt, ge, eq, ne, yes, no}
-use Rattle.laws.specs.Sums.{sum, sum-ext}
-use Rattle.paper.specs.Sizes.{services}
+use Rattle.laws.specs.Sums.{sum, sum-ext, sumBy}
+use Rattle.paper.specs.Sizes.{placesInAll, services}
 use Rattle.paper.specs.Shares.{allUnused, free, sharesKept}
 use Rattle.paper.specs.Calls.{held, dialogues}
-use Rattle.paper.specs.Layout.{tableSize, view}
-use Rattle.paper.specs.Rules.{placeKept, tableShares, rules}
+use Rattle.paper.specs.Layout.{tableSize, flag, view}
+use Rattle.paper.specs.Rules.{tableShares, rules}
 use Rattle.paper.specs.Outcome.{Lent, Spaces, standing}
 use Rattle.table_laws.specs.Fine.{Octets}
-use Rattle.table_laws.specs.Ready.{Ready, ready}
+use Rattle.table_laws.specs.Whole.{slotAtKept, view-fine, view-each, encode-view}
+use Rattle.table_laws.specs.Ready.{Ready, ready, rules-walk}
+use Rattle.table_laws.specs.Counts.{places-all}
 use Rattle.table_shares.specs.Share.{holding, Sound, kept-sound}
 use Rattle.table_shares.specs.Telling.{Remains, Parted}
-use Rattle.table_rules.specs.Tally.{tally, tallies, tally-held, held-all}
+use Rattle.table_rules.specs.Tally.{tallies, tally-held}
 
 -- every place, and how many are of each kind
 pub record Scanned (t : List ℕ) (ok : Bool) (counts : List ℕ) : Type 0 where
-  pub is : ok ≡ all (placeKept t) 128
+  pub is : ok ≡ all (slotAtKept t) 128
   pub told : ok ≡ true → counts ≡ tallies t 128
 
 -- ---- the check
@@ -52,45 +54,51 @@ module _ (t : List ℕ) where
   pub check-refused : (answer n : ℕ) (counts : List ℕ) (rest left : ℕ) → answer ≡ n → 0 < n → n ≡ tableAnswer t → CheckTold t answer counts rest left
   check-refused answer n counts rest left e h q = record { is = e ∙ q; fine = λ z. absurd (omega arith) }
 
-  module _ (e : length t ≡ tableSize) where
-    pub check-places : all (placeKept t) 128 ≡ false → 2 ≡ tableAnswer t
-    unfolding tableAnswer rules
-    check-places k = eq _ _ _ _ e (no _ _ _ (sym (no _ _ _ k refl)) refl)
+  module _ (o : Octets t) (e : length t ≡ tableSize) where
+    pub check-places : all (slotAtKept t) 128 ≡ false → 2 ≡ tableAnswer t
+    unfolding tableAnswer
+    check-places k = eq _ _ _ _ e (no _ _ _ (rules-walk t o e ∙ sym (no _ _ _ k refl)) refl)
 
-    module _ (k : all (placeKept t) 128 ≡ true) where
+    module _ (k : all (slotAtKept t) 128 ≡ true) where
+      kept : {b : Bool} → b ≡ tableShares (view t) → rules t ≡ b
+      kept q = rules-walk t o e ∙ sym (yes _ _ _ k q)
+
       pub check-shares : false ≡ sharesKept (dialogues (view t)) → 2 ≡ tableAnswer t
-      unfolding tableAnswer rules tableShares
-      check-shares q = eq _ _ _ _ e (no _ _ _ (sym (yes _ _ _ k q)) refl)
+      unfolding tableAnswer tableShares
+      check-shares q = eq _ _ _ _ e (no _ _ _ (kept q) refl)
 
       -- the numbers counted are the table's: the dialogues that the code walks over, and what of the places is left
       pub check-counted : (counts : List ℕ) → counts ≡ tallies t 128 → (s : ℕ) → s < services → getD counts s 0 ≡ held (view t .places) s
       check-counted counts c s h = ap (λ (l : List ℕ). getD l s 0) c ∙ tally-held t k s h
 
-      few : (a b : ℕ) → a + b ≡ 128 → (128 - a + a ≡ 128) × (a ≤ 128)
+      -- every place is a service's or free
+      held-all : sum (held (view t .places)) services + sumBy flag (view t .places) ≡ placesInAll
+      held-all = places-all t (λ p h. view-fine t e o (encode-view t e o k) p h (view-each t e o k p h))
+
+      few : (a b : ℕ) → a + b ≡ placesInAll → (placesInAll - a + a ≡ placesInAll) × (a ≤ placesInAll)
       few a b q = (omega arith, omega arith)
 
-      pub check-remains : (counts : List ℕ) (left : ℕ) → counts ≡ tallies t 128 → left ≡ free (dialogues (view t))
+      pub check-remains : (counts : List ℕ) (left : ℕ) → counts ≡ tallies t placesInAll → left ≡ free (dialogues (view t))
           → Remains (holding (dialogues (view t)) (λ i. getD counts i 0)) left
       check-remains counts left c f = record {
         is = ap (λ (n : ℕ). n + sum (λ i. getD counts i 0) services) f
             ∙ ap (λ (n : ℕ). free (dialogues (view t)) + n) (sum-ext (λ i. getD counts i 0) (held (view t .places)) services (check-counted counts c))
-            ∙ few (sum (held (view t .places)) services) (tally t 128 16) (held-all t k) .0;
+            ∙ few (sum (held (view t .places)) services) (sumBy flag (view t .places)) held-all .0;
       }
 
-      pub check-fine : Octets t → (counts : List ℕ) (rest left : ℕ) → counts ≡ tallies t 128 → left ≡ free (dialogues (view t)) → Parted (dialogues (view t)) true rest
+      pub check-fine : (counts : List ℕ) (rest left : ℕ) → counts ≡ tallies t placesInAll → left ≡ free (dialogues (view t)) → Parted (dialogues (view t)) true rest
           → CheckTold t 0 counts rest left
-      unfolding tableAnswer rules tableShares
-      check-fine o counts rest left c f s =
-          let keeps : rules t ≡ true = sym (yes _ _ _ k (s .is)) in
+      unfolding tableAnswer tableShares
+      check-fine counts rest left c f s =
           record {
-            is = eq _ _ _ _ e (yes _ _ _ keeps refl);
+            is = eq _ _ _ _ e (yes _ _ _ (kept (s .is)) refl);
             fine = λ z. record {
-              ready = ready t o e keeps;
-              keeps = keeps;
+              ready = ready t o e (kept (s .is));
+              keeps = kept (s .is);
               counted = check-counted counts c;
               kept = s .told refl;
               remain = f;
-              sound = kept-sound (dialogues (view t)) (few (sum (held (view t .places)) services) (tally t 128 16) (held-all t k) .1) (sym (s .is));
+              sound = kept-sound (dialogues (view t)) (few (sum (held (view t .places)) services) (sumBy flag (view t .places)) held-all .1) (sym (s .is));
             };
           }
 

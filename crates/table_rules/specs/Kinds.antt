@@ -4,17 +4,19 @@ use mathlib.Core.Bool.{Bool, true, false, cond}
 use mathlib.Core.List.{List}
 use Prim.Native.Nat.{ℕ, _+_, _*_, _-_, _≤_, _<_}
 use native.Mathlib.Omega.{arith}
-use lib.Dec.{eqb, ltb}
-use borrow.Author.Tests.{lt-ltb, ne-eqb}
-use lib.ListN.{length, getD, take, drop}
-use Rattle.laws.specs.If.{ifLt, ifEq, ifB, eq, ne, yes, no, was-lt, was-ge, was-eq, was-yes, true-false}
-use Rattle.laws.specs.Lists.{zeros}
+use lib.Dec.{eqb, ltb, leb}
+use borrow.Author.Tests.{lt-ltb, ne-eqb, ltb-true, ltb-false, le-leb, lt-leb}
+use lib.ListN.{length, getD, take, drop, length-take}
+use Rattle.laws.specs.If.{ifLt, ifEq, ifB, eq, ne, yes, no, was-ge, was-eq, was-yes, true-false}
+use Rattle.laws.specs.Lists.{zeros, every}
 use Rattle.paper.specs.declared.Invocation.{Invocation}
 use Rattle.paper.specs.declared.Reject.{Reject}
+use Rattle.paper.specs.Sizes.{services, mostWaiting}
 use Rattle.paper.specs.Invocations.{slotOf}
-use Rattle.paper.specs.Layout.{invocationBy, invocationsAt, rejectBy, rejectsAt, controlBy, placeBy, slot, mapBit}
-use Rattle.table_laws.specs.Slots.{slotKept}
-use Rattle.paper.specs.Rules.{freeKept, usedKept, placeKept, controlKept, peerKept, invocationKept, differs, invocationsKept, rejectKept, rejectZero, rejectsKept, waitingKept}
+use Rattle.paper.specs.Layout.{stateAt, serviceAt, waitingLengthAt, countAt, invocationBy, invocationsAt, rejectBy, rejectsAt, controlBy, placeBy, slot, mapBit}
+use Rattle.table_laws.specs.Slots.{freeKept, usedKept, slotKept}
+use Rattle.table_laws.specs.Whole.{slotAtKept}
+use Rattle.paper.specs.Rules.{dialogueKept, peerKept, invocationKept, differs, invocationsKept, rejectKept, rejectZero, rejectsKept, waitingKept}
 
 -- the invocation at index i, and those from it on
 abbrev pub invocationNo : List ℕ → ℕ → Invocation
@@ -57,20 +59,46 @@ headKept s =
 unfoldable pub tailKept : List ℕ → Bool
 tailKept s = ifB (rejectsKept (getD s 11 0) (rejectsFrom 0 s)) (ifLt 240 (getD s 10 0) false (octetsKept (getD s 10 0) s)) false
 
-pub used-parts : (s : List ℕ) (bit : ℕ) → usedKept s bit ≡ ifEq bit 0 (ifB (headKept s) (tailKept s) false) false
-unfolding usedKept placeBy controlKept headKept tailKept octetsKept ifLt ifB
-used-parts s bit =
-    ap (λ (b : Bool). ifEq bit 0 b false)
-    (go (ltb 4 (getD s 3 0)) (ltb (getD s 4 0) 16) (peerKept (controlBy s)) (ltb 8 (getD s 11 0)) (invocationsKept (invocationsFrom 0 s)) (rejectsKept (getD s 11 0) (rejectsFrom 0 s)) _)
+-- not above is at most
+at-most : (a b : ℕ) → leb a b ≡ cond (ltb b a) false true
+at-most a b = go (ltb b a) refl
   where
-    go : (a b c d e f x : Bool) → cond (cond a false (cond b (cond c (cond d false (cond e f false)) false) false)) x false
-        ≡ cond (cond a false (cond b (cond c (cond d false e) false) false)) (cond f x false) false
-    go true b c d e f x = refl
-    go false false c d e f x = refl
-    go false true false d e f x = refl
-    go false true true true e f x = refl
-    go false true true false true f x = refl
-    go false true true false false f x = refl
+    go : (x : Bool) → ltb b a ≡ x → leb a b ≡ cond x false true
+    go true q = lt-leb a b (ltb-true b a q)
+    go false q = le-leb a b (ltb-false b a q)
+
+short-take : (n : ℕ) (l : List ℕ) → n ≤ mostWaiting → leb (length (take n l)) mostWaiting ≡ true
+short-take n l h = le-leb (length (take n l)) mostWaiting (simp length-take (omega arith))
+
+-- the tests of a dialogue in the code's order
+pub used-parts : (s : List ℕ) (bit : ℕ) → usedKept s bit ≡ ifEq bit 0 (ifB (headKept s) (tailKept s) false) false
+unfolding usedKept dialogueKept every placeBy headKept tailKept octetsKept ifLt ifB
+used-parts s bit =
+    let n : ℕ = getD s waitingLengthAt 0 in
+    ap (λ (b : Bool). ifEq bit 0 b false)
+    (rw (at-most (getD s stateAt 0) 4, at-most (getD s countAt 0) 8)
+    (go (ltb 4 (getD s stateAt 0)) (ltb (getD s serviceAt 0) 16) (peerKept (controlBy s)) (ltb 8 (getD s countAt 0)) (invocationsKept (invocationsFrom 0 s))
+    (rejectsKept (getD s countAt 0) (rejectsFrom 0 s)) (ltb 240 n) (zeros (drop (44 + n) s)) (leb (length (take n (drop 44 s))) 240) (waitingKept (take n (drop 44 s)))
+    (λ q. short-take n (drop 44 s) (ltb-false 240 n q))))
+  where
+    nothing : (n z : Bool) → cond n false (cond z false false) ≡ false
+    nothing true z = refl
+    nothing false true = refl
+    nothing false false = refl
+
+    go : (a b c d e f n z l w : Bool) → (n ≡ false → l ≡ true)
+        → cond n false (cond z (cond (cond a false true) (cond b (cond c (cond (cond d false true) (cond e (cond f (cond l (cond w true false) false) false) false) false) false) false) false) false)
+        ≡ cond (cond a false (cond b (cond c (cond d false e) false) false)) (cond f (cond n false (cond z w false)) false) false
+    go true b c d e f n z l w h = nothing n z
+    go false false c d e f n z l w h = nothing n z
+    go false true false d e f n z l w h = nothing n z
+    go false true true true e f n z l w h = nothing n z
+    go false true true false false f n z l w h = nothing n z
+    go false true true false true false n z l w h = nothing n z
+    go false true true false true true true z l w h = refl
+    go false true true false true true false false l w h = refl
+    go false true true false true true false true l true h = ap (λ (x : Bool). cond x true false) (h refl)
+    go false true true false true true false true l false h = ap (λ (x : Bool). cond x false false) (h refl)
 
 -- A PLACE'S KIND: its service, 16 free, 17 where it breaks a rule
 unfoldable pub kindOf : List ℕ → ℕ → ℕ
@@ -81,12 +109,11 @@ kindAt t p = kindOf (slot t p) (mapBit t p)
 
 -- what a used place's rules say of its octets
 pub used-service : (s : List ℕ) (bit : ℕ) → usedKept s bit ≡ true → getD s 4 0 < 16
-unfolding usedKept placeBy controlKept
+unfolding usedKept placeBy dialogueKept every
 used-service s bit e =
-    let a = was-eq _ _ _ _ (sym e) true-false in
-    let b = was-yes _ _ _ (a .1) true-false in
-    let c = was-ge _ _ _ _ (sym (b .0)) true-false in
-    was-lt _ _ _ _ (c .1) true-false .0
+    let a = was-ge _ _ _ _ (was-eq _ _ _ _ (sym e) true-false .1) true-false in
+    let b = was-yes _ _ _ (was-yes _ _ _ (a .1) true-false .1) true-false in
+    ltb-true (getD s serviceAt 0) services (was-yes _ _ _ (b .1) true-false .0)
 
 pub used-bit : (s : List ℕ) (bit : ℕ) → usedKept s bit ≡ true → bit ≡ 0
 unfolding usedKept
@@ -137,8 +164,8 @@ kind-broken s bit z n = eq _ _ _ _ z (go (freeKept s bit) refl)
     go true q = absurd (n (sym (eq _ _ _ _ z (yes _ _ _ q refl))))
     go false q = no _ _ _ q refl
 
-pub place-kept : (t : List ℕ) (p : ℕ) → placeKept t p ≡ ltb (kindAt t p) 17
-unfolding placeKept kindAt
+pub place-kept : (t : List ℕ) (p : ℕ) → slotAtKept t p ≡ ltb (kindAt t p) 17
+unfolding slotAtKept kindAt
 place-kept t p = kind-kept (slot t p) (mapBit t p)
 
 pub kept-told : (s : List ℕ) (bit : ℕ) → slotKept s bit ≡ true → Kept s bit (kindOf s bit)
@@ -153,6 +180,6 @@ kept-told s bit e = record {
       (k, used-bit s bit u, subst (λ (x : ℕ). x < 16) (sym k) (used-service s bit u));
 }
 
-pub kept-at : (t : List ℕ) (p : ℕ) → placeKept t p ≡ true → Kept (slot t p) (mapBit t p) (kindAt t p)
-unfolding placeKept kindAt
+pub kept-at : (t : List ℕ) (p : ℕ) → slotAtKept t p ≡ true → Kept (slot t p) (mapBit t p) (kindAt t p)
+unfolding slotAtKept kindAt
 kept-at t p e = kept-told (slot t p) (mapBit t p) e

@@ -1,23 +1,20 @@
 -- How many places are of each kind: the services' dialogues, and the free places. Assumes nothing.
 use mathlib.Core.Path.{_≡_, refl, sym, ap, subst, _∙_}
 use mathlib.Core.Bool.{Bool, true, false, cond}
-use mathlib.Core.List.{List, [], _∷_}
-use Prim.Native.Nat.{ℕ, zero, suc, _+_, _*_, _-_, _<_, _≤_}
+use mathlib.Core.List.{List}
+use Prim.Native.Nat.{ℕ, zero, suc, _+_, _-_, _<_, _≤_}
 use native.Mathlib.Nat.{add-zero}
 use native.Mathlib.Numerals.{add-one}
 use native.Mathlib.Omega.{arith}
 use lib.Dec.{eqb}
-use borrow.Author.Tests.{eq-eqb, ne-eqb, eqb-true, eqb-false, ltb-true, lt-ltb}
-use lib.ListN.{length, getD, set, take, replicate}
-use lib.Seq.{length-take-le}
+use borrow.Author.Tests.{eq-eqb, ne-eqb, eqb-true, eqb-false, lt-ltb}
+use lib.ListN.{getD, set, replicate}
 use Rattle.laws.specs.If.{ifEq, ifB, all, all-at, all-step, yes, no}
-use Rattle.laws.specs.Sums.{sum, sum-ext, sum-plus, sum-zero, sum-but, but, sumBy}
-use Rattle.laws.specs.Lists.{tab, at-tab, tab-set, tab-ext, tab-all, sum-tab}
-use Rattle.laws.specs.Digits.{count, octetDigits, octetDigits-length}
-use Rattle.paper.specs.Shares.{free}
-use Rattle.paper.specs.Calls.{isFree, isOf, held, dialogues}
-use Rattle.paper.specs.Layout.{placeBy, slot, view, mapBit}
-use Rattle.paper.specs.Rules.{placeKept}
+use Rattle.laws.specs.Sums.{sum, sum-ext}
+use Rattle.laws.specs.Lists.{tab, at-tab, tab-set, tab-ext, sum-tab}
+use Rattle.paper.specs.Calls.{isFree, isOf, held}
+use Rattle.paper.specs.Layout.{placeBy, slot, view}
+use Rattle.table_laws.specs.Whole.{slotAtKept}
 use Rattle.table_rules.specs.Kinds.{kindAt, kept-at, place-kept}
 
 abbrev pub isKind : ℕ → ℕ → ℕ
@@ -82,26 +79,26 @@ pub record FreeRun (t : List ℕ) (p r : ℕ) : Type 0 where
 -- every place below p keeps the rules and was counted; p is not free
 pub record Upto (t : List ℕ) (p : ℕ) (counts : List ℕ) : Type 0 where
   pub most : p ≤ 128
-  pub keeps : all (placeKept t) p ≡ true
+  pub keeps : all (slotAtKept t) p ≡ true
   pub counted : counts ≡ tallies t p
   pub end : p < 128 → kindAt t p ≡ 16 → ⊥
 
-run-keeps : (t : List ℕ) (n p : ℕ) → ((q : ℕ) → p ≤ q → q < p + n → kindAt t q ≡ 16) → all (placeKept t) p ≡ true
-    → (all (placeKept t) (p + n) ≡ true) × (tallies t p ≡ tallies t (p + n))
-run-keeps t zero p h k = (ap (all (placeKept t)) (add-zero p) ∙ k, ap (tallies t) (sym (add-zero p)))
+run-keeps : (t : List ℕ) (n p : ℕ) → ((q : ℕ) → p ≤ q → q < p + n → kindAt t q ≡ 16) → all (slotAtKept t) p ≡ true
+    → (all (slotAtKept t) (p + n) ≡ true) × (tallies t p ≡ tallies t (p + n))
+run-keeps t zero p h k = (ap (all (slotAtKept t)) (add-zero p) ∙ k, ap (tallies t) (sym (add-zero p)))
 run-keeps t (suc n) p h k =
     let e : p + 1 + n ≡ p + suc n = omega arith in
     let f : kindAt t p ≡ 16 = h p (omega arith) (omega arith) in
-    let r = run-keeps t n (p + 1) (λ q a b. h q (omega arith) (omega arith)) (all-step (placeKept t) p k (place-kept t p ∙ lt-ltb (kindAt t p) 17 (omega (arith, f)))) in
-    (ap (all (placeKept t)) (sym e) ∙ r .0, tallies-free t p f ∙ r .1 ∙ ap (tallies t) e)
+    let r = run-keeps t n (p + 1) (λ q a b. h q (omega arith) (omega arith)) (all-step (slotAtKept t) p k (place-kept t p ∙ lt-ltb (kindAt t p) 17 (omega (arith, f)))) in
+    (ap (all (slotAtKept t)) (sym e) ∙ r .0, tallies-free t p f ∙ r .1 ∙ ap (tallies t) e)
 
-run-upto : (t : List ℕ) (p r : ℕ) (counts : List ℕ) → all (placeKept t) p ≡ true → counts ≡ tallies t p → FreeRun t p r → Upto t r counts
+run-upto : (t : List ℕ) (p r : ℕ) (counts : List ℕ) → all (slotAtKept t) p ≡ true → counts ≡ tallies t p → FreeRun t p r → Upto t r counts
 run-upto t p r counts k c f =
     let e : p + (r - p) ≡ r = omega (arith, f .start) in
     let w = run-keeps t (r - p) p (λ q a b. f .free q a (omega arith)) k in
     record {
       most = f .most;
-      keeps = ap (all (placeKept t)) (sym e) ∙ w .0;
+      keeps = ap (all (slotAtKept t)) (sym e) ∙ w .0;
       counted = c ∙ w .1 ∙ ap (tallies t) e;
       end = f .end;
     }
@@ -113,7 +110,7 @@ pub upto-more : (t : List ℕ) (p r k : ℕ) (counts : List ℕ) → Upto t p co
     → Upto t r (set counts k (getD counts k 0 + 1))
 upto-more t p r k counts u e h f =
     run-upto t (p + 1) r (set counts k (getD counts k 0 + 1))
-    (all-step (placeKept t) p (u .keeps) (place-kept t p ∙ lt-ltb (kindAt t p) 17 (omega (arith, e))))
+    (all-step (slotAtKept t) p (u .keeps) (place-kept t p ∙ lt-ltb (kindAt t p) 17 (omega (arith, e))))
     (ap (λ (l : List ℕ). set l k (getD l k 0 + 1)) (u .counted) ∙ tallies-step t p k e h) f
 
 pub upto-small : (t : List ℕ) (p k : ℕ) (counts : List ℕ) → Upto t p counts → k < 16 → getD counts k 0 ≤ 128
@@ -121,31 +118,10 @@ upto-small t p k counts u h =
     let e : getD counts k 0 ≡ getD (tallies t p) k 0 = ap (λ (l : List ℕ). getD l k 0) (u .counted) in
     omega (arith, e, tallies-le t p k h, u .most)
 
--- every place is of one kind
-kinds-one : (a n : ℕ) → a < n → sum (isKind a) n ≡ 1
-kinds-one a n h =
-    let e : sum (isKind a) n ≡ sum (but (λ k. 0) a 1) n = sum-ext (isKind a) (but (λ k. 0) a 1) n (λ k l. turn k (eqb a k) refl) in
-    let z : sum (but (λ k. 0) a 1) n + 0 ≡ sum (λ k. 0) n + 1 = sum-but (λ k. 0) a 1 n h in
-    omega (arith, e, z, sum-zero n)
-  where
-    turn : (k : ℕ) (b : Bool) → eqb a k ≡ b → isKind a k ≡ but (λ k. 0) a 1 k
-    turn k true e = rw (e, eq-eqb k a (sym (eqb-true a k e)))
-    turn k false e = rw (e, ne-eqb k a (λ q. eqb-false a k e (sym q)))
-
-pub tallies-all : (t : List ℕ) (n p : ℕ) → ((q : ℕ) → q < p → kindAt t q < n) → sum (tally t p) n ≡ p
-tallies-all t n zero h = sum-zero n
-tallies-all t n (suc p) h =
-    omega (arith, sum-plus (tally t p) (isKind (kindAt t p)) n, tallies-all t n p (λ q l. h q (omega arith)), kinds-one (kindAt t p) n (h p (omega arith)))
-
-count-sum : (l : List ℕ) → count l ≡ sumBy (λ x. x) l
-unfolding count
-count-sum [] = refl
-count-sum (d ∷ l) = ap (λ (n : ℕ). d + n) (count-sum l)
-
 -- ---- what a kind says of its place
-module _ (t : List ℕ) (keeps : all (placeKept t) 128 ≡ true) where
-  each : (q : ℕ) → q < 128 → placeKept t q ≡ true
-  each q h = all-at (placeKept t) 128 q keeps h
+module _ (t : List ℕ) (keeps : all (slotAtKept t) 128 ≡ true) where
+  each : (q : ℕ) → q < 128 → slotAtKept t q ≡ true
+  each q h = all-at (slotAtKept t) 128 q keeps h
 
   kind-of-service : (s q : ℕ) → s < 16 → q < 128 → isKind (kindAt t q) s ≡ isOf s (placeBy (slot t q))
   unfolding isOf isFree placeBy ifEq
@@ -170,40 +146,3 @@ module _ (t : List ℕ) (keeps : all (placeKept t) 128 ≡ true) where
       at-tab 16 s (tally t 128) 0 h
       ∙ sum-ext (λ q. isKind (kindAt t q) s) (λ q. isOf s (placeBy (slot t q))) 128 (λ q g. kind-of-service s q h g)
       ∙ sym (sum-tab (isOf s) 128 (λ q. placeBy (slot t q)))
-
-  kind-of-bit : (q : ℕ) → q < 128 → mapBit t q ≡ isKind (kindAt t q) 16
-  kind-of-bit q l = go (eqb (getD (slot t q) 3 0) 0) refl
-    where
-      go : (b : Bool) → eqb (getD (slot t q) 3 0) 0 ≡ b → mapBit t q ≡ isKind (kindAt t q) 16
-      go true e =
-          let k = kept-at t q (each q l) .free (eqb-true (getD (slot t q) 3 0) 0 e) in
-          k .1 ∙ sym (kind-hit (kindAt t q) 16 (k .0))
-      go false e =
-          let k = kept-at t q (each q l) .used (eqb-false (getD (slot t q) 3 0) 0 e) in
-          k .1 ∙ sym (kind-miss (kindAt t q) 16 (λ w. omega (arith, k .2, w)))
-
-  -- the map's bits that are set are the places that no service holds
-  sum-held : sum (held (view t .places)) 16 ≡ sum (tally t 128) 16
-  sum-held =
-      sum-ext (held (view t .places)) (tally t 128) 16
-      (λ s h. sym (tally-held s h) ∙ at-tab 16 s (tally t 128) 0 h)
-
-  pub held-all : sum (held (view t .places)) 16 + tally t 128 16 ≡ 128
-  held-all = ap (λ (n : ℕ). n + tally t 128 16) sum-held ∙ tallies-all t 17 128 (λ q h. small q h)
-    where
-      small : (q : ℕ) → q < 128 → kindAt t q < 17
-      small q h = ltb-true (kindAt t q) 17 (sym (place-kept t q) ∙ each q h)
-
-  pub free-count : 16 ≤ length t → count (octetDigits (take 16 t)) ≡ free (dialogues (view t))
-  unfolding mapBit
-  free-count h =
-      let l : List ℕ = octetDigits (take 16 t) in
-      let e : length l ≡ 128 = octetDigits-length (take 16 t) ∙ ap (λ (n : ℕ). 8 * n) (length-take-le 16 t h) in
-      count-sum l
-      ∙ ap (sumBy (λ x. x)) (sym (tab-all 128 l 0 e))
-      ∙ sum-tab (λ x. x) 128 (λ i. getD l i 0)
-      ∙ sum-ext (λ i. getD l i 0) (λ q. isKind (kindAt t q) 16) 128 (λ q g. kind-of-bit q g)
-      ∙ rest (sum (held (view t .places)) 16) (tally t 128 16) held-all
-    where
-      rest : (a b : ℕ) → a + b ≡ 128 → b ≡ 128 - a
-      rest a b w = omega arith

@@ -1,13 +1,27 @@
 // The table rules (01, "Answer numbers"): one pass over the 128 places, which counts them too, so that no call walks the table twice.
 // A run of zeros is an OR over all of it, which is quicker than leaving at the first octet that is not 0.
+use laws::number;
+use paper::DIALOGUE_ACTIVE;
+use paper::DIALOGUE_FREE;
+use paper::DIALOGUE_RECEIVED;
 use paper::GUARANTEES;
+use paper::IDLE;
 use paper::INVOCATIONS;
 use paper::LIMITS;
+use paper::NO_FAULT;
+use paper::PEER;
+use paper::PEER_LENGTH;
 use paper::PLACE_OCTETS;
 use paper::PLACES;
+use paper::PLACES_IN_ALL;
+use paper::REJECTING;
 use paper::REJECTS;
+use paper::REJECTS_WAITING;
+use paper::SERVICE;
+use paper::STATE;
 use paper::TABLE_OCTETS;
 use paper::WAITING;
+use paper::WAITING_LENGTH;
 ghost use mathlib.Core.Path.{_≡_};
 ghost use mathlib.Core.Bool.{false};
 ghost use mathlib.Core.List.{[], _∷_};
@@ -17,10 +31,24 @@ ghost use lib.ListN.{length, drop, getD};
 ghost use Rattle.laws.specs.Lists.{zeros};
 ghost use Rattle.paper.specs.Invocations.{isOpen};
 ghost use Rattle.paper.specs.Layout.{invocationBy, rejectBy, controlBy};
-ghost use Rattle.paper.specs.Rules.{freeKept, invocationKept, invocationsKept, rejectKept, rejectsKept, hasPeer, peerKept, waitingKept, usedKept};
+ghost use Rattle.paper.specs.Rules.{invocationKept, invocationsKept, rejectKept, rejectsKept, hasPeer, peerKept, waitingKept};
+ghost use Rattle.table_laws.specs.Slots.{freeKept, usedKept};
 ghost use Rattle.table_rules.specs.Kinds.{invocationsFrom, noneOpen, invocationAtKept, IdleFrom, rejectsFrom, rejectAtKept, octetsKept, headKept, tailKept, kindOf};
 ghost use Rattle.table_rules.specs.Tally.{FreeRun};
 ghost use Rattle.table_rules.specs.Checking.{Scanned, CheckTold};
+
+// The peer's ID after its first octet; the octets of the invocations after the first, and of the last four; of the last four rejects.
+const PEER_SECOND: usize = PEER + 1;
+
+const PEER_THIRD: usize = PEER + 2;
+
+const PEER_FOURTH: usize = PEER + 3;
+
+const LATER_INVOCATIONS: usize = INVOCATIONS + 2;
+
+const LAST_INVOCATIONS: usize = INVOCATIONS + 8;
+
+const LAST_REJECTS: usize = REJECTS + 8;
 
 // Whether a place's octets are all 0 from k on.
 fn zeros_from(rec: &[u8], k: usize) -> bool
@@ -44,13 +72,13 @@ fn free_kept(rec: &[u8], bit: u8) -> bool
     if bit != 1 {
         return false;
     }
-    if table_map::word(rec, 4) != 0 {
+    if table_map::word(rec, SERVICE) != 0 {
         return false;
     }
     if table_map::word(rec, INVOCATIONS) != 0 {
         return false;
     }
-    if table_map::word(rec, 20) != 0 {
+    if table_map::word(rec, LAST_INVOCATIONS) != 0 {
         return false;
     }
     zeros_from(rec, REJECTS)
@@ -60,7 +88,7 @@ fn free_kept(rec: &[u8], bit: u8) -> bool
 fn invocation_kept(id: u8, o: u8) -> bool
     ensures { λ r. ⌜ r ≡ invocationKept (invocationBy id o) ⌝ }
 {
-    if o % 8 == 0 {
+    if o % 8 == IDLE {
         if id != 0 {
             return false;
         }
@@ -69,7 +97,7 @@ fn invocation_kept(id: u8, o: u8) -> bool
         }
         return o / 64 == 0;
     }
-    if o % 8 > 4 {
+    if o % 8 > REJECTING {
         return false;
     }
     if o / 8 % 8 < 1 {
@@ -85,7 +113,7 @@ fn invocation_kept(id: u8, o: u8) -> bool
 fn is_open(id: u8, o: u8, wanted: u8) -> bool
     ensures { λ r. ⌜ r ≡ isOpen wanted (invocationBy id o) ⌝ }
 {
-    if o % 8 == 0 {
+    if o % 8 == IDLE {
         return false;
     }
     id == wanted
@@ -118,7 +146,7 @@ fn invocation_at_kept(rec: &[u8], i: usize, n: usize) -> bool
     let id = rec[a];
     let o = rec[b];
     if invocation_kept(id, o) {
-        if o % 8 == 0 {
+        if o % 8 == IDLE {
             return true;
         }
         return unused_from(rec, id, i + 1, n);
@@ -147,10 +175,10 @@ fn invocations_kept(rec: &[u8]) -> bool
     requires { ⌜ length (now rec) ≡ 284 ⌝ }
     ensures { λ r. ⌜ r ≡ invocationsKept (invocationsFrom 0 (now (rec .entry))) ⌝ }
 {
-    if table_map::word(rec, 20) != 0 {
+    if table_map::word(rec, LAST_INVOCATIONS) != 0 {
         return each_invocation_kept(rec, 8);
     }
-    if table_map::word(rec, 14) != 0 {
+    if table_map::word(rec, LATER_INVOCATIONS) != 0 {
         return each_invocation_kept(rec, 4);
     }
     each_invocation_kept(rec, 1)
@@ -215,7 +243,7 @@ fn rejects_kept(rec: &[u8], n: u8) -> bool
 {
     if n == 0 {
         if table_map::word(rec, REJECTS) == 0 {
-            if table_map::word(rec, 36) == 0 {
+            if table_map::word(rec, LAST_REJECTS) == 0 {
                 return true;
             }
         }
@@ -257,29 +285,41 @@ fn peer_kept(rec: &[u8]) -> bool
     requires { ⌜ length (now rec) ≡ 284 ⌝ }
     ensures { λ r. ⌜ r ≡ peerKept (controlBy (now (rec .entry))) ⌝ }
 {
-    let n = rec[5];
-    if has_peer(rec[3]) {
+    let n = rec[PEER_LENGTH];
+    if has_peer(rec[STATE]) {
         if n < 1 {
             return false;
         }
         if n > 4 {
             return false;
         }
-        return past_zero(n, rec[6], rec[7], rec[8], rec[9]);
+        return past_zero(
+            n,
+            rec[PEER],
+            rec[PEER_SECOND],
+            rec[PEER_THIRD],
+            rec[PEER_FOURTH],
+        );
     }
     if n != 0 {
         return false;
     }
-    past_zero(0, rec[6], rec[7], rec[8], rec[9])
+    past_zero(
+        0,
+        rec[PEER],
+        rec[PEER_SECOND],
+        rec[PEER_THIRD],
+        rec[PEER_FOURTH],
+    )
 }
 
 fn has_peer(state: u8) -> bool
     ensures { λ r. ⌜ r ≡ hasPeer state ⌝ }
 {
-    if state == 3 {
+    if state == DIALOGUE_RECEIVED {
         return true;
     }
-    state == 4
+    state == DIALOGUE_ACTIVE
 }
 
 // A dialogue's control record but its rejects: "states, services .. and lengths are in range".
@@ -287,14 +327,14 @@ fn head_kept(rec: &[u8]) -> bool
     requires { ⌜ length (now rec) ≡ 284 ⌝ }
     ensures { λ r. ⌜ r ≡ headKept (now (rec .entry)) ⌝ }
 {
-    if rec[3] > 4 {
+    if rec[STATE] > DIALOGUE_ACTIVE {
         return false;
     }
-    if rec[4] >= 16 {
+    if rec[SERVICE] >= 16 {
         return false;
     }
     if peer_kept(rec) {
-        if rec[11] > 8 {
+        if rec[REJECTS_WAITING] > 8 {
             return false;
         }
         return invocations_kept(rec);
@@ -313,7 +353,7 @@ fn waiting_kept(w: &[u8]) -> bool
     let mut at: usize = 0;
     loop {
         let c = reading_components::component_at(w, n, at);
-        if c.fault != 3 {
+        if c.fault != NO_FAULT {
             return false;
         }
         at = c.stop;
@@ -343,8 +383,8 @@ fn tail_kept(rec: &[u8]) -> bool
     requires { ⌜ length (now rec) ≡ 284 ⌝ }
     ensures { λ r. ⌜ r ≡ tailKept (now (rec .entry)) ⌝ }
 {
-    let n = rec[10];
-    let k = rec[11];
+    let n = rec[WAITING_LENGTH];
+    let k = rec[REJECTS_WAITING];
     if n == 0 {
         if k == 0 {
             return zeros_from(rec, REJECTS);
@@ -378,7 +418,7 @@ fn is_free(rec: &[u8], bit: u8) -> bool
     requires { ⌜ length (now rec) ≡ 284 ⌝ }
     ensures { λ r. ⌜ r ≡ eqb (kindOf (now (rec .entry)) bit) 16 ⌝ }
 {
-    if rec[3] != 0 {
+    if rec[STATE] != DIALOGUE_FREE {
         return false;
     }
     free_kept(rec, bit)
@@ -390,7 +430,7 @@ fn free_end(t: &[u8], p: usize) -> usize
     ensures { λ r. ⌜ FreeRun (now (t .entry)) p r ⌝ }
 {
     let mut q = p;
-    while q < 128 {
+    while q < PLACES_IN_ALL {
         let a = PLACES + q * PLACE_OCTETS;
         let e = a + PLACE_OCTETS;
         let b = table_map::bit_at(t, q);
@@ -408,11 +448,11 @@ fn kind_of(rec: &[u8], bit: u8) -> u8
     requires { ⌜ (length (now rec) ≡ 284) × (kindOf (now rec) bit ≡ 16 → ⊥) ⌝ }
     ensures { λ r. ⌜ r ≡ kindOf (now (rec .entry)) bit ⌝ }
 {
-    if rec[3] == 0 {
+    if rec[STATE] == DIALOGUE_FREE {
         return 17;
     }
     if used_kept(rec, bit) {
-        return rec[4];
+        return rec[SERVICE];
     }
     17
 }
@@ -429,7 +469,7 @@ fn scan(t: &[u8]) -> Kinds
 {
     let mut counts: [u8; 16] = [0; 16];
     let mut p = free_end(t, 0);
-    while p < 128 {
+    while p < PLACES_IN_ALL {
         let a = PLACES + p * PLACE_OCTETS;
         let e = a + PLACE_OCTETS;
         let b = table_map::bit_at(t, p);

@@ -1,5 +1,5 @@
 use Rattle.table_rules.proofs.Laws.{free-words}
-use Rattle.paper.specs.Rules.{freeKept}
+use Rattle.table_laws.specs.Slots.{freeKept}
 use Rattle.laws.specs.If.{eq, ne}
 use mathlib.Core.Path.{refl, sym, _∙_}
 use native.Mathlib.Omega.{arith}

@@ -1,7 +1,7 @@
 use Rattle.table_rules.proofs.Laws.{kind-here, above}
 use Rattle.table_rules.specs.Tally.{tallies, Upto, upto-start, upto-more, upto-small}
 use Rattle.table_rules.specs.Kinds.{kindAt, place-kept}
-use Rattle.paper.specs.Rules.{placeKept}
+use Rattle.table_laws.specs.Whole.{slotAtKept}
 use Rattle.laws.specs.If.{all, all-fails, true-false}
 use borrow.Author.Tests.{le-ltb}
 use Prim.Native.Nat.{ℕ, _-_}
@@ -63,7 +63,7 @@ returns c =
     let r : ℕ = d .kind-of .result in
     let k : r ≡ kindAt t p = kind-here t p (b .bit-at .result) r (d .kind-of .ensures) (b .bit-at .ensures .0) in
     record {
-      is = sym (all-fails (placeKept t) 128 p (omega arith) (place-kept t p ∙ le-ltb (kindAt t p) 17 (above r (kindAt t p) k (omega arith) (l .loop .inv .end (omega arith)))));
+      is = sym (all-fails (slotAtKept t) 128 p (omega arith) (place-kept t p ∙ le-ltb (kindAt t p) 17 (above r (kindAt t p) k (omega arith) (l .loop .inv .end (omega arith)))));
       told = λ q. absurd (true-false (sym q));
     }
 
@@ -107,7 +107,7 @@ returns-2 c =
     let t : List ℕ = l .before .before .before .args .t .now in
     let e : l .loop .p ≡ 128 = omega arith in
     record {
-      is = sym (ap (all (placeKept t)) (sym e) ∙ l .loop .inv .keeps);
+      is = sym (ap (all (slotAtKept t)) (sym e) ∙ l .loop .inv .keeps);
       told = λ q. l .loop .inv .counted ∙ ap (tallies t) e;
     }
 
