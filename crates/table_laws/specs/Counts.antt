@@ -9,13 +9,13 @@ use borrow.Author.Tests.{eqb-true, eqb-false, ltb-true, ltb-false, le-leb, lt-le
 use lib.ListN.{length, getD, take}
 use Rattle.laws.specs.If.{ifEq, ifB, ne, yes, no, all}
 use Rattle.laws.specs.Sums.{sum, sum-ext, sum-plus, sum-zero, sumBy}
-use Rattle.laws.specs.Lists.{firstAt, sum-tab}
+use Rattle.laws.specs.Lists.{firstAt}
 use Rattle.laws.specs.Digits.{octetDigits, lowest, count}
 use Rattle.paper.specs.Dialogues.{Place, emptyPlace}
 use Rattle.paper.specs.Shares.{free}
 use Rattle.paper.specs.Calls.{Table, placeAt, isFree, isOf, held, lowestFree}
-use Rattle.paper.specs.Layout.{flag, placeBy, slot, view}
-use Rattle.table_laws.specs.Fine.{Octets, FinePlace, Fine}
+use Rattle.paper.specs.Layout.{flag, view}
+use Rattle.table_laws.specs.Fine.{Octets, Fine}
 use Rattle.table_laws.specs.Slots.{flag-free, flag-used}
 use Rattle.table_laws.specs.Whole.{slotAtKept, view-length, view-fine, view-each, view-bits, encode-view}
 use Rattle.table_laws.specs.Ready.{Ready, ready-bits}
@@ -79,26 +79,19 @@ held-free (x ∷ ps) n h =
       held-free ps n (λ i l. h (suc i) (omega arith)),
     )
 
--- where each place is fine: every place is a service's or free, and the map's bits that are set are those that no service holds
-module _ (t : List ℕ) (each : (p : ℕ) → p < 128 → FinePlace (placeAt (view t) p)) where
-  pub places-all : sum (held (view t .places)) 16 + sumBy flag (view t .places) ≡ 128
-  places-all = held-free (view t .places) 16 (λ i l. each i (omega (arith, view-length t)) .control .service) ∙ view-length t
-
-  pub map-count : octetDigits (take 16 t) ≡ map flag (view t .places) → count (octetDigits (take 16 t)) ≡ free 128 16 (held (view t .places))
-  map-count e = ap count e ∙ count-free (view t .places) ∙ less (sum (held (view t .places)) 16) (sumBy flag (view t .places)) places-all
-    where
-      less : (n m : ℕ) → n + m ≡ 128 → m ≡ 128 - n
-      less n m h = omega arith
-
 pub all-places : (T : Table) → Fine T → sum (held (T .places)) 16 + sumBy flag (T .places) ≡ 128
 all-places T f = held-free (T .places) 16 (λ i l. f .each i (omega (arith, f .places)) .control .service) ∙ f .places
 
-pub ready-count : (t : List ℕ) → Ready t → count (octetDigits (take 16 t)) ≡ free 128 16 (held (view t .places))
-ready-count t r = map-count t (r .fine .each) (ready-bits t r)
-
--- where each place passes, before the shares are judged
+-- where each place passes, the map's bits that are set are the places that no service holds
 pub walk-count : (t : List ℕ) → Octets t → length t ≡ 36400 → all (slotAtKept t) 128 ≡ true → count (octetDigits (take 16 t)) ≡ free 128 16 (held (view t .places))
-walk-count t o e k = map-count t (λ p h. view-fine t e o (encode-view t e o k) p h (view-each t e o k p h)) (view-bits t e o k)
+walk-count t o e k =
+    let service : (p : ℕ) → p < length (view t .places) → placeAt (view t) p .control .service < 16 =
+    λ p h. view-fine t e o (encode-view t e o k) p (omega (arith, view-length t)) (view-each t e o k p (omega (arith, view-length t))) .control .service in
+    ap count (view-bits t e o k) ∙ count-free (view t .places)
+    ∙ less (sum (held (view t .places)) 16) (sumBy flag (view t .places)) (held-free (view t .places) 16 service ∙ view-length t)
+  where
+    less : (n m : ℕ) → n + m ≡ 128 → m ≡ 128 - n
+    less n m h = omega arith
 
 -- ---- where a place is free, the lowest is there, and free
 pub first-there : (ps : List Place) → 0 < sumBy flag ps → firstAt isFree ps < length ps
@@ -138,8 +131,3 @@ pub lowest-is-free : (T : Table) → Fine T → lowestFree T < 128 → flag (pla
 unfolding lowestFree flag
 lowest-is-free T f h =
     sym (yes (isFree (placeAt T (lowestFree T))) 1 0 (first-free (T .places) (subst (λ (n : ℕ). firstAt isFree (T .places) < n) (sym (f .places)) h)) refl)
-
--- a service's dialogues, counted over the places' octets
-pub held-view : (t : List ℕ) (s : ℕ) → held (view t .places) s ≡ sum (λ p. isOf s (placeBy (slot t p))) 128
-unfolding held view
-held-view t s = sum-tab (isOf s) 128 (λ p. placeBy (slot t p))

@@ -4,8 +4,8 @@ use mathlib.Core.Bool.{Bool, true, false}
 use mathlib.Core.List.{List, map}
 use Prim.Native.Nat.{ℕ, _+_, _-_, _<_, _≤_}
 use native.Mathlib.Omega.{arith}
-use lib.ListN.{length, getD, take, drop, length-drop}
-use lib.Seq.{length-take-le, getD-take, getD-drop}
+use lib.ListN.{length, getD, take, drop}
+use lib.Seq.{getD-take, getD-drop}
 use Rattle.laws.specs.If.{ifB, yes, no, was-yes, true-false, all, all-at, all-of}
 use Rattle.laws.specs.Digits.{octetDigits}
 use Rattle.paper.specs.Calls.{Table, placeAt, guaranteeOf, limitOf}
@@ -82,15 +82,8 @@ module _ (t : List ℕ) (r : Ready t) where
   pub ready-bits : octetDigits (take 16 t) ≡ map flag (view t .places)
   ready-bits = ap (λ (x : List ℕ). octetDigits (take 16 x)) (sym (r .same)) ∙ encode-bits (view t) (r .fine)
 
-  pub ready-bit : (p : ℕ) → p < 128 → mapBit t p ≡ flag (placeAt (view t) p)
-  ready-bit p h = ap (λ (x : List ℕ). mapBit x p) (sym (r .same)) ∙ encode-bit (view t) (r .fine) p h
-
   pub ready-slot : (p : ℕ) → p < 128 → slot t p ≡ placeOctets (placeAt (view t) p)
   ready-slot p h = ap (λ (x : List ℕ). slot x p) (sym (r .same)) ∙ encode-slot (view t) (r .fine) p h
-
-  -- the view has no other octets
-  pub view-back : view (encode (view t)) ≡ view t
-  view-back = view-encode (view t) (r .fine)
 
 -- the shares are octets of the table, in any table
 pub guarantee-at : (t : List ℕ) (s : ℕ) → s < 16 → guaranteeOf (view t) s ≡ getD t (16 + s) 0
