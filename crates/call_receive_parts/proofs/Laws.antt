@@ -1,12 +1,13 @@
 -- What the functions' answers cite, on plain values. Assumes nothing.
 use mathlib.Core.Path.{_≡_, refl, sym, ap, subst, _∙_}
-use mathlib.Core.Bool.{true, false}
+use mathlib.Core.Bool.{Bool, true, false}
 use mathlib.Core.List.{List, [], _∷_, _++_}
 use Prim.Native.Nat.{ℕ, zero, suc, _+_, _-_, _<_, _≤_}
 use native.Mathlib.Omega.{arith}
+use lib.Dec.{ltb}
 use lib.ListN.{length, getD, take, drop, length-append, List·getD-eq-default}
 use lib.Seq.{sets, getD-take, getD-drop}
-use Rattle.laws.specs.If.{ifEq, eq, ne, yes, no, was-eq, was-yes, true-false}
+use Rattle.laws.specs.If.{ifEq, eq, ne, yes, no, by-eq, was-eq, was-yes, true-false}
 use Rattle.laws.specs.Lists.{pad}
 use Rattle.laws.specs.Runs.{Wrote, join-before}
 use Rattle.paper.specs.declared.Message.{Message}
@@ -15,7 +16,7 @@ use Rattle.paper.specs.declared.Row.{Row}
 use Rattle.paper.specs.Sizes.{placeOf, localID}
 use Rattle.paper.specs.Problems.{noProblem}
 use Rattle.paper.specs.Messages.{abortTag, noRun}
-use Rattle.paper.specs.Components.{Item, components}
+use Rattle.paper.specs.Components.{Item, items, components, componentAt, goOn, nextStart}
 use Rattle.paper.specs.Writing.{tlv, causeAbortOctets}
 use Rattle.paper.specs.Kinds.{rowUni, rowBegin, rowContinue, rowEnd, rowUserAbort, rowAbort}
 use Rattle.paper.specs.Rows.{dialogueRow, rowOctets, rowsOctets, componentRows, allActed}
@@ -31,6 +32,7 @@ use Rattle.demand_kept.specs.Leaves.{whether-eq}
 use Rattle.demand_kept.specs.Acts.{AllReadable, Stays, all-acted-stays, components-readable}
 use Rattle.demand_kept.specs.Steps.{begun-control-fine, continued-fine}
 use Rattle.table_places.specs.Storing.{Storing, withWaiting}
+use Rattle.reading_components.specs.Bounds.{component-in}
 use Rattle.writing_octets.specs.Lengths.{element-length, length-small}
 use Rattle.call_receive_rows.specs.declared.Shown.{Shown}
 use Rattle.call_receive_rows.specs.Shows.{Shows}
