@@ -1,10 +1,10 @@
 -- WHAT A REQUEST OR TIMER DOES TO ITS DIALOGUE KEEPS THE RULES (01, "Dialogue states"). Assumes nothing.
-use mathlib.Core.Path.{_≡_, refl, sym, ap, subst, _∙_}
+use mathlib.Core.Path.{_≡_, refl, sym, subst, _∙_}
 use mathlib.Core.Bool.{Bool, true, false}
 use mathlib.Core.List.{List, [], _++_}
 use Prim.Native.Nat.{ℕ, _+_, _≤_, _<_}
 use native.Mathlib.Omega.{arith}
-use lib.ListN.{length, length-append}
+use lib.ListN.{length-append}
 use Rattle.laws.specs.If.{by-eq, was-ge, was-eq, was-yes, by-b, true-false}
 use Rattle.paper.specs.declared.Control.{Control}
 use Rattle.paper.specs.Problems.{kindOf}

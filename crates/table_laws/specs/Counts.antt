@@ -9,7 +9,7 @@ use borrow.Author.Tests.{eqb-true, eqb-false, ltb-true, ltb-false, le-leb, lt-le
 use lib.ListN.{length, getD, take}
 use Rattle.laws.specs.If.{ifEq, ifB, ne, yes, no, all}
 use Rattle.laws.specs.Sums.{sum, sum-ext, sum-plus, sum-zero, sumBy}
-use Rattle.laws.specs.Lists.{firstAt, sum-tab}
+use Rattle.laws.specs.Lists.{firstAt}
 use Rattle.laws.specs.Digits.{octetDigits, lowest, count}
 use Rattle.paper.specs.Dialogues.{Place, emptyPlace}
 use Rattle.paper.specs.Sizes.{placesInAll}
@@ -137,8 +137,3 @@ pub lowest-is-free : (T : Table) → Fine T → lowestFree T < 128 → flag (pla
 unfolding lowestFree flag
 lowest-is-free T f h =
     sym (yes (isFree (placeAt T (lowestFree T))) 1 0 (first-free (T .places) (subst (λ (n : ℕ). firstAt isFree (T .places) < n) (sym (f .places)) h)) refl)
-
--- a service's dialogues, counted over the places' octets
-pub held-view : (t : List ℕ) (s : ℕ) → held (view t .places) s ≡ sum (λ p. isOf s (placeBy (slot t p))) 128
-unfolding held view
-held-view t s = sum-tab (isOf s) 128 (λ p. placeBy (slot t p))

@@ -38,9 +38,6 @@ free-is x e = go (eqb (x .control .state) 0) refl
     go true q = eqb-true (x .control .state) 0 q
     go false q = absurd (omega (arith, e, flag-used x (eqb-false (x .control .state) 0 q)))
 
-pub used-is : (x : Place) → flag x ≡ 0 → x .control .state ≡ 0 → ⊥
-used-is x e s = omega (arith, e, flag-free x s)
-
 -- ---- a free place is fine
 none-open : (n : ℕ) → FineInvocations (replicate n noInvocation)
 none-open n = record {
