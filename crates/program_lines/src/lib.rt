@@ -3,6 +3,7 @@ ghost use mathlib.Core.Path.{_≡_};
 ghost use Prim.Native.Nat.{_≤_};
 ghost use lib.ListN.{length};
 ghost use Rattle.program_lines.specs.Within.{Within};
+ghost use Rattle.program_lines.specs.Within.{unread};
 use libc::STDIN_FILENO;
 
 // A line so far: the next octet of the buffer and how many it has; its number; how many of its octets the space has, whether
@@ -121,4 +122,15 @@ pub fn next(buf: &mut [u8], line: &mut [u8], l: Line) -> Line
         turns -= 1;
     }
     m
+}
+
+// A line that cannot be read: its number and `bad`. How many octets that is.
+pub fn bad(number: u64, separator: u8) -> usize
+    ensures { λ r. ⌜ r ≡ length (unread number separator) ⌝ }
+{
+    let mut out = [0u8; 32];
+    let a = program_digits::decimal(&mut out, 0, number);
+    let b = program_text::put(&mut out, a, separator);
+    let n = program_text::word(&mut out, b, b"bad\n");
+    program_text::say(&out, n)
 }

@@ -1,66 +1,56 @@
-// What a call or a reader gives, as text: a dialogue, a row, a component.
+// What a call or a reader gives, as text: a message, a row, a component.
 ghost use Prim.Native.Nat.{_<_, _≤_};
 ghost use mathlib.Core.Path.{_≡_};
-ghost use lib.ListN.{length};
+ghost use lib.ListN.{length, take};
 ghost use Rattle.paper.specs.Readers.{messageItems};
 ghost use Rattle.reading_reader.specs.Whole.{PieceFits};
+ghost use Rattle.program_text.specs.Said.{Said};
+ghost use Rattle.program_digits.specs.Digits.{hex, orNone};
+ghost use Rattle.program_listing.specs.Rows.{numberAt, numbers};
 ghost use Rattle.program_listing.specs.Listed.{withPiece};
+use laws::number;
 use paper::Component;
 use paper::Row;
 use reading_reader::Piece;
 
-// A dialogue's ID, 8 hex digits.
-pub fn dialogue(out: &mut [u8], at: usize, id: u32) -> usize
-    ensures { λ r. ⌜ r ≤ length (now (out .exit)) ⌝ }
-{
-    let a = program_text::octet(out, at, (id / 16777216) as u8);
-    let b = program_text::octet(out, a, (id / 65536 % 256) as u8);
-    let c = program_text::octet(out, b, (id / 256 % 256) as u8);
-    program_text::octet(out, c, (id % 256) as u8)
-}
-
 // The message of so many octets at the start of a space, `-` for none.
 pub fn message(out: &mut [u8], at: usize, space: &[u8], count: u32) -> usize
     requires { ⌜ at ≤ length (now out) ⌝ }
-    ensures { λ r. ⌜ r ≤ length (now (out .exit)) ⌝ }
+    ensures { λ r. ⌜ Said (now (out .entry)) at (orNone (hex (take count (now (space .entry))))) r (now (out .exit)) ⌝ }
 {
     let n = count as usize;
     if n > space.len() {
-        return program_text::octets(out, at, space);
+        return program_digits::octets(out, at, space);
     }
-    program_text::octets(out, at, &space[0..n])
-}
-
-fn wide(x: u8) -> u32
-    ensures { λ r. ⌜ r ≤ 255 ⌝ }
-{
-    x as u32
+    program_digits::octets(out, at, &space[0..n])
 }
 
 // The number of four octets at a place of the row space, least significant first; 0 past its end.
-pub fn number_at(rows: &[u8], at: usize) -> u32 {
+pub fn number_at(rows: &[u8], at: usize) -> u32
+    ensures { λ r. ⌜ r ≡ numberAt (now (rows .entry)) at ⌝ }
+{
     if at >= rows.len() {
         return 0;
     }
     if rows.len() - at < 4 {
         return 0;
     }
-    wide(rows[at])
-        + 256 * wide(rows[at + 1])
-        + 65536 * wide(rows[at + 2])
-        + 16777216 * wide(rows[at + 3])
+    number(rows[at])
+        + 256 * number(rows[at + 1])
+        + 65536 * number(rows[at + 2])
+        + 16777216 * number(rows[at + 3])
 }
 
 // The eight numbers of the row at a place of the row space, each after a blank.
 pub fn row(out: &mut [u8], at: usize, rows: &[u8], place: usize) -> usize
     requires { ⌜ (at ≤ length (now out)) × (place < 137438953472) ⌝ }
-    ensures { λ r. ⌜ r ≤ length (now (out .exit)) ⌝ }
+    ensures { λ r. ⌜ Said (now (out .entry)) at (numbers 8 place (now (rows .entry))) r (now (out .exit)) ⌝ }
 {
     let mut k = at;
     let mut i = 0;
     while i < 8 {
         let n = number_at(rows, place + 4 * i);
-        k = program_text::number(out, k, n as u64);
+        k = program_digits::spaced(out, k, n as u64);
         i += 1;
     }
     k
@@ -70,11 +60,11 @@ pub fn row(out: &mut [u8], at: usize, rows: &[u8], place: usize) -> usize
 fn row_numbers(out: &mut [u8], at: usize, r: Row) -> usize
     ensures { λ r. ⌜ r ≤ length (now (out .exit)) ⌝ }
 {
-    let a = program_text::number(out, at, r.start as u64);
-    let b = program_text::number(out, a, r.length as u64);
-    let c = program_text::number(out, b, r.invoke as u64);
-    let d = program_text::number(out, c, r.linked as u64);
-    program_text::number(out, d, r.problem as u64)
+    let a = program_digits::spaced(out, at, r.start as u64);
+    let b = program_digits::spaced(out, a, r.length as u64);
+    let c = program_digits::spaced(out, b, r.invoke as u64);
+    let d = program_digits::spaced(out, c, r.linked as u64);
+    program_digits::spaced(out, d, r.problem as u64)
 }
 
 // The tag, these numbers, and the parameter's start and length.
@@ -85,10 +75,10 @@ fn component_line(out: &mut [u8], at: usize, c: Component) -> usize
     let n = c.parstop - c.par;
     let r = writing_rows::component_row(c, 0, at, 0, c.problem);
     let a = program_text::word(out, 0, b"c ");
-    let b = program_text::octet(out, a, c.tag);
+    let b = program_digits::octet(out, a, c.tag);
     let d = row_numbers(out, b, r);
-    let e = program_text::number(out, d, c.par as u64);
-    let f = program_text::number(out, e, n as u64);
+    let e = program_digits::spaced(out, d, c.par as u64);
+    let f = program_digits::spaced(out, e, n as u64);
     program_text::put(out, f, b'\n')
 }
 

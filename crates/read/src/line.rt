@@ -51,11 +51,11 @@ pub fn finish(octets: &[u8], l: Line)
     requires { ⌜ LineIn (length (now octets)) l ⌝ }
 {
     if l.bad {
-        program_text::bad(l.number, b' ');
+        program_lines::bad(l.number, b' ');
         return;
     }
     if l.digit < 16 {
-        program_text::bad(l.number, b' ');
+        program_lines::bad(l.number, b' ');
         return;
     }
     let n = l.count;
@@ -81,7 +81,7 @@ fn taken(octets: &mut [u8], l: Line, x: u8) -> Line
         l.comment = true;
         return l;
     }
-    let d = program_text::digit_of(x);
+    let d = program_digits::digit_of(x);
     if d < 16 {
         return with_digit(octets, l, d);
     }

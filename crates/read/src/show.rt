@@ -3,7 +3,10 @@ ghost use Prim.Native.Nat.{_+_, _<_, _≤_};
 ghost use lib.ListN.{length};
 ghost use Rattle.reading_messages.specs.Bounds.{MessageIn};
 use paper::Component;
+use paper::IS_DROPPED;
+use paper::IS_SOUND;
 use paper::Message;
+use paper::NO_PROBLEM;
 use paper::Run;
 
 fn run(out: &mut [u8], at: usize, s: &[u8], r: Run) -> usize
@@ -13,7 +16,7 @@ fn run(out: &mut [u8], at: usize, s: &[u8], r: Run) -> usize
     let a = program_text::put(out, at, b' ');
     let from = r.start;
     let to = from + r.length;
-    program_text::octets(out, a, &s[from..to])
+    program_digits::octets(out, a, &s[from..to])
 }
 
 // How it is read: sound, dropped for its form, or at fault with a P-Abort cause.
@@ -21,33 +24,33 @@ fn form(out: &mut [u8], at: usize, fault: u8) -> usize
     requires { ⌜ at ≤ length (now out) ⌝ }
     ensures { λ r. ⌜ r ≤ length (now (out .exit)) ⌝ }
 {
-    if fault == 255 {
+    if fault == IS_SOUND {
         return program_text::word(out, at, b" sound");
     }
-    if fault == 254 {
+    if fault == IS_DROPPED {
         return program_text::word(out, at, b" dropped");
     }
     let a = program_text::word(out, at, b" fault-");
-    program_text::decimal(out, a, fault as u64)
+    program_digits::decimal(out, a, fault as u64)
 }
 
 fn cause(out: &mut [u8], at: usize, code: u32) -> usize
     requires { ⌜ at ≤ length (now out) ⌝ }
     ensures { λ r. ⌜ r ≤ length (now (out .exit)) ⌝ }
 {
-    if code == 65535 {
+    if code == NO_PROBLEM {
         return program_text::word(out, at, b" -");
     }
-    program_text::number(out, at, code as u64)
+    program_digits::spaced(out, at, code as u64)
 }
 
 // Line number, type and form.
 fn type_and_form(out: &mut [u8], line: u64, tag: u8, fault: u8) -> usize
     ensures { λ r. ⌜ r ≤ length (now (out .exit)) ⌝ }
 {
-    let a = program_text::decimal(out, 0, line);
+    let a = program_digits::decimal(out, 0, line);
     let b = program_text::put(out, a, b' ');
-    let c = program_text::octet(out, b, tag);
+    let c = program_digits::octet(out, b, tag);
     form(out, c, fault)
 }
 
@@ -62,8 +65,8 @@ fn message_line(out: &mut [u8], line: u64, s: &[u8], m: Message) -> usize
     let a = type_and_form(out, line, m.tag, m.fault);
     let b = run(out, a, s, origin);
     let c = run(out, b, s, destination);
-    let d = program_text::number(out, c, portion.start as u64);
-    let e = program_text::number(out, d, portion.length as u64);
+    let d = program_digits::spaced(out, c, portion.start as u64);
+    let e = program_digits::spaced(out, d, portion.length as u64);
     let f = cause(out, e, m.cause);
     program_text::put(out, f, b'\n')
 }
@@ -75,9 +78,9 @@ fn fault_line(out: &mut [u8], at: usize, c: Component) -> usize
 {
     let r = writing_rows::component_row(c, 0, at, 0, c.problem);
     let a = program_text::word(out, 0, b"fault");
-    let b = program_text::number(out, a, c.fault as u64);
-    let d = program_text::number(out, b, r.start as u64);
-    let e = program_text::number(out, d, r.length as u64);
+    let b = program_digits::spaced(out, a, c.fault as u64);
+    let d = program_digits::spaced(out, b, r.start as u64);
+    let e = program_digits::spaced(out, d, r.length as u64);
     program_text::put(out, e, b'\n')
 }
 
@@ -98,7 +101,7 @@ fn fault(s: &[u8], lim: usize, at: usize)
 fn components(s: &[u8], m: Message)
     requires { ⌜ (length (now s) ≤ 512) × MessageIn (length (now s)) m ⌝ }
 {
-    if m.fault != 255 || m.from == 0 {
+    if m.fault != IS_SOUND || m.from == 0 {
         return;
     }
     let l = program_listing::components(s, true);
@@ -116,7 +119,7 @@ fn components(s: &[u8], m: Message)
 // One of 0 or over 512 octets.
 fn refused(line: u64) {
     let mut out = [0u8; 256];
-    let a = program_text::decimal(&mut out, 0, line);
+    let a = program_digits::decimal(&mut out, 0, line);
     let n = program_text::word(&mut out, a, b" - refused - - 0 0 -\n");
     program_text::say(&out, n);
 }

@@ -3,7 +3,7 @@ ghost use Prim.Native.Nat.{_<_};
 use crate::asked;
 use crate::show;
 use call_entry::Reply;
-use program_fields::Pair;
+use program_words::Pair;
 
 // The answer that no call gives: a line that cannot be read.
 const UNREAD: u32 = 255;
@@ -36,9 +36,9 @@ fn open_for(table: &mut [u8], line: &[u8]) -> Reply {
 fn receive(table: &mut [u8], rows: &mut [u8], space: &mut [u8], line: &mut [u8]) -> Reply {
     let s = asked::number(line, 1);
     let f = asked::field(line, 2);
-    let m = program_fields::octets_or_none(line, f);
+    let m = program_words::octets_or_none(line, f);
     if s.ok && m.ok {
-        return call_receive::receive(table, s.value, program_fields::cut(line, m), rows, space);
+        return call_receive::receive(table, s.value, program_words::cut(line, m), rows, space);
     }
     unread()
 }
@@ -62,13 +62,13 @@ fn on_dialogue(table: &mut [u8], rows: &mut [u8], line: &[u8]) -> Reply {
 fn abort(table: &mut [u8], space: &mut [u8], line: &mut [u8]) -> Reply {
     let n = asked::on_dialogue(line);
     let f = asked::field(line, 3);
-    let p = program_fields::octets_or_none(line, f);
+    let p = program_words::octets_or_none(line, f);
     if n.ok && p.ok {
         return call_send::send_abort(
             table,
             n.service,
             n.dialogue,
-            program_fields::cut(line, p),
+            program_words::cut(line, p),
             space,
         );
     }
@@ -109,8 +109,8 @@ fn error(table: &mut [u8], line: &[u8], given: Pair) -> Reply {
             n.service,
             n.dialogue,
             n.id,
-            program_fields::cut(line, given.first),
-            program_fields::cut(line, given.second),
+            program_words::cut(line, given.first),
+            program_words::cut(line, given.second),
         );
     }
     unread()
@@ -126,8 +126,8 @@ fn result(table: &mut [u8], line: &[u8], given: Pair) -> Reply {
             n.dialogue,
             tag,
             n.id,
-            program_fields::cut(line, given.first),
-            program_fields::cut(line, given.second),
+            program_words::cut(line, given.first),
+            program_words::cut(line, given.second),
         );
     }
     unread()
@@ -145,8 +145,8 @@ fn invoke(table: &mut [u8], line: &[u8], given: Pair) -> Reply {
             n.id,
             linked.value,
             class.value,
-            program_fields::cut(line, given.first),
-            program_fields::cut(line, given.second),
+            program_words::cut(line, given.first),
+            program_words::cut(line, given.second),
         );
     }
     unread()
@@ -157,8 +157,8 @@ fn send(table: &mut [u8], space: &mut [u8], line: &[u8], given: Pair) -> Reply {
     let n = asked::on_dialogue(line);
     let service = n.service;
     let dialogue = n.dialogue;
-    let name = program_fields::cut(line, given.first);
-    let information = program_fields::cut(line, given.second);
+    let name = program_words::cut(line, given.first);
+    let information = program_words::cut(line, given.second);
     if n.ok {
         if asked::verb(line, b"begin") {
             return call_send::send_begin(table, service, dialogue, name, information, space);
@@ -187,7 +187,7 @@ fn send(table: &mut [u8], space: &mut [u8], line: &[u8], given: Pair) -> Reply {
 fn with_pair(table: &mut [u8], space: &mut [u8], line: &mut [u8], k: usize) -> Reply
     requires { ⌜ k < 8 ⌝ }
 {
-    let given = program_fields::octets_of_two(line, b' ', k);
+    let given = program_words::octets_of_two(line, b' ', k);
     if given.ok {
         if k == 3 {
             return send(table, space, line, given);
@@ -231,7 +231,7 @@ fn with_five(table: &mut [u8], space: &mut [u8], line: &mut [u8]) -> Reply {
 }
 
 fn reply_to(table: &mut [u8], rows: &mut [u8], space: &mut [u8], line: &mut [u8]) -> Reply {
-    let n = program_fields::separators(line, b' ');
+    let n = program_words::separators(line, b' ');
     if n == 1 {
         return open_for(table, line);
     }
@@ -258,32 +258,32 @@ fn reply_to(table: &mut [u8], rows: &mut [u8], space: &mut [u8], line: &mut [u8]
 
 // `parameter OCTETS START LENGTH`
 fn parameter(line: &mut [u8], number: u64) {
-    let n = program_fields::separators(line, b' ');
+    let n = program_words::separators(line, b' ');
     let start = asked::number(line, 2);
     let count = asked::number(line, 3);
     let f = asked::field(line, 1);
-    let m = program_fields::octets_or_none(line, f);
+    let m = program_words::octets_or_none(line, f);
     if n == 3 && start.ok && count.ok && m.ok {
         show::parameter_line(
-            program_fields::cut(line, m),
+            program_words::cut(line, m),
             start.value as usize,
             count.value as usize,
         );
         return;
     }
-    program_text::bad(number, b' ');
+    program_lines::bad(number, b' ');
 }
 
 // `portion OCTETS START LENGTH`
 fn portion(rows: &mut [u8], line: &mut [u8], number: u64) {
-    let n = program_fields::separators(line, b' ');
+    let n = program_words::separators(line, b' ');
     let start = asked::number(line, 2);
     let count = asked::number(line, 3);
     let f = asked::field(line, 1);
-    let m = program_fields::octets_or_none(line, f);
+    let m = program_words::octets_or_none(line, f);
     if n == 3 && start.ok && count.ok && m.ok {
         call_portion::portion(
-            program_fields::cut(line, m),
+            program_words::cut(line, m),
             start.value as usize,
             count.value as usize,
             rows,
@@ -291,19 +291,19 @@ fn portion(rows: &mut [u8], line: &mut [u8], number: u64) {
         show::portion_line(rows);
         return;
     }
-    program_text::bad(number, b' ');
+    program_lines::bad(number, b' ');
 }
 
 // `components OCTETS`
 fn components(line: &mut [u8], number: u64) {
     let f = asked::field(line, 1);
-    let n = program_fields::separators(line, b' ');
-    let m = program_fields::octets_or_none(line, f);
+    let n = program_words::separators(line, b' ');
+    let m = program_words::octets_or_none(line, f);
     if n == 1 && m.ok {
-        show::component_lines(program_fields::cut(line, m));
+        show::component_lines(program_words::cut(line, m));
         return;
     }
-    program_text::bad(number, b' ');
+    program_lines::bad(number, b' ');
 }
 
 // A comment, or what a call gives.
@@ -314,7 +314,7 @@ fn passed_over(line: &[u8]) -> bool {
     if line[0] == b'#' || line[0] == b'=' {
         return true;
     }
-    if program_fields::separators(line, b' ') == 0 {
+    if program_words::separators(line, b' ') == 0 {
         return false;
     }
     if asked::verb(line, b"r") {
@@ -327,7 +327,7 @@ fn called(table: &mut [u8], rows: &mut [u8], space: &mut [u8], line: &mut [u8], 
     let opens = asked::verb(line, b"open");
     let r = reply_to(table, rows, space, line);
     if r.answer == UNREAD {
-        program_text::bad(number, b' ');
+        program_lines::bad(number, b' ');
         return;
     }
     show::reply(r, opens, space);

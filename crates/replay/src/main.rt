@@ -16,7 +16,7 @@ fn play(table: &mut [u8], rows: &mut [u8], space: &mut [u8], line: &mut [u8], l:
     requires { ⌜ l .count ≤ length (now line) ⌝ }
 {
     if l.long {
-        program_text::bad(l.number, b' ');
+        program_lines::bad(l.number, b' ');
         return;
     }
     let n = l.count;

@@ -8,7 +8,7 @@ fn opened(out: &mut [u8], at: usize, r: Reply, opens: bool) -> usize
 {
     if opens {
         if r.answer == 0 {
-            return program_listing::dialogue(out, at, r.dialogue);
+            return program_digits::dialogue(out, at, r.dialogue);
         }
     }
     program_text::put(out, at, b'-')
@@ -19,7 +19,7 @@ fn answer_line(out: &mut [u8], r: Reply, opens: bool) -> usize
     ensures { λ r. ⌜ r ≤ length (now (out .exit)) ⌝ }
 {
     let a = program_text::put(out, 0, b'=');
-    let b = program_text::number(out, a, r.answer as u64);
+    let b = program_digits::spaced(out, a, r.answer as u64);
     let c = program_text::put(out, b, b' ');
     opened(out, c, r, opens)
 }
@@ -30,7 +30,7 @@ fn message_line(out: &mut [u8], at: usize, r: Reply, space: &[u8]) -> usize
 {
     let a = program_text::put(out, at, b' ');
     let b = program_listing::message(out, a, space, r.length);
-    let c = program_text::number(out, b, r.rows as u64);
+    let c = program_digits::spaced(out, b, r.rows as u64);
     program_text::put(out, c, b'\n')
 }
 
@@ -70,10 +70,10 @@ pub fn parameter_line(s: &[u8], start: usize, count: usize) {
     let p = reading_parameter::parameter_at(s, start, count);
     let mut out = [0u8; 16640];
     let a = program_text::put(&mut out, 0, b'=');
-    let b = program_text::number(&mut out, a, p.start as u64);
-    let c = program_text::number(&mut out, b, p.length as u64);
+    let b = program_digits::spaced(&mut out, a, p.start as u64);
+    let c = program_digits::spaced(&mut out, b, p.length as u64);
     let d = program_text::put(&mut out, c, b' ');
-    let e = program_text::octets(&mut out, d, reading_parameter::parameter(s, start, count));
+    let e = program_digits::octets(&mut out, d, reading_parameter::parameter(s, start, count));
     let n = program_text::put(&mut out, e, b'\n');
     program_text::say(&out, n);
 }
@@ -82,7 +82,7 @@ pub fn parameter_line(s: &[u8], start: usize, count: usize) {
 fn count_line(n: u64) {
     let mut out = [0u8; 32];
     let a = program_text::put(&mut out, 0, b'=');
-    let b = program_text::number(&mut out, a, n);
+    let b = program_digits::spaced(&mut out, a, n);
     let c = program_text::put(&mut out, b, b'\n');
     program_text::say(&out, c);
 }

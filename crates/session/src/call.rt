@@ -1,7 +1,9 @@
 // A line as a call, by its number of fields and its verb.
 use call_entry::Reply;
-use program_fields::Number;
-use program_fields::Pair;
+use paper::NO_ID;
+use paper::ROW_UNI;
+use program_digits::Number;
+use program_words::Pair;
 
 // What it gave: the dialogue only where there is one to tell of. `read` tells whether it was a line that can be read.
 pub struct Played {
@@ -37,15 +39,15 @@ fn about(r: Reply, told: bool, dialogue: u32) -> Played {
 }
 
 fn part<'a>(line: &'a [u8], k: usize) -> &'a [u8] {
-    program_fields::part(line, b'\t', k)
+    program_words::part(line, b'\t', k)
 }
 
 fn verb(line: &[u8], w: &[u8]) -> bool {
-    program_fields::is(part(line, 1), w)
+    program_words::is(part(line, 1), w)
 }
 
 fn service(line: &[u8]) -> Number {
-    program_fields::decimal(part(line, 0))
+    program_digits::read_decimal(part(line, 0))
 }
 
 fn open_for(table: &mut [u8], line: &[u8]) -> Played {
@@ -61,7 +63,7 @@ fn open_for(table: &mut [u8], line: &[u8]) -> Played {
 
 fn begin(table: &mut [u8], space: &mut [u8], line: &[u8]) -> Played {
     let s = service(line);
-    let d = program_fields::dialogue(part(line, 2));
+    let d = program_digits::read_dialogue(part(line, 2));
     if s.ok && d.ok {
         let none = &line[0..0];
         let r = call_send::send_begin(table, s.value, d.value, none, none, space);
@@ -73,13 +75,13 @@ fn begin(table: &mut [u8], space: &mut [u8], line: &[u8]) -> Played {
 // The dialogue is that of the first row, none in UNI (kind 1).
 fn receive(table: &mut [u8], rows: &mut [u8], space: &mut [u8], line: &mut [u8]) -> Played {
     let s = service(line);
-    let f = program_fields::nth(line, b'\t', 2);
-    let m = program_fields::octets(line, f);
+    let f = program_words::nth(line, b'\t', 2);
+    let m = program_words::octets(line, f);
     if s.ok && m.ok {
-        let r = call_receive::receive(table, s.value, program_fields::cut(line, m), rows, space);
+        let r = call_receive::receive(table, s.value, program_words::cut(line, m), rows, space);
         let kind = program_listing::number_at(rows, 0);
         let dialogue = program_listing::number_at(rows, 4);
-        return about(r, r.rows > 0 && kind != 1, dialogue);
+        return about(r, r.rows > 0 && kind != ROW_UNI, dialogue);
     }
     unread()
 }
@@ -87,19 +89,19 @@ fn receive(table: &mut [u8], rows: &mut [u8], space: &mut [u8], line: &mut [u8])
 // The operation and the parameter are octets in the line.
 fn invoke_with(table: &mut [u8], line: &[u8], given: Pair) -> Played {
     let s = service(line);
-    let d = program_fields::dialogue(part(line, 2));
-    let class = program_fields::decimal(part(line, 4));
-    let i = program_fields::id(part(line, 3));
+    let d = program_digits::read_dialogue(part(line, 2));
+    let class = program_digits::read_decimal(part(line, 4));
+    let i = program_digits::read_id(part(line, 3));
     if s.ok && d.ok && i.ok && class.ok {
         let r = call_pass::invoke(
             table,
             s.value,
             d.value,
             i.value as u8,
-            256,
+            NO_ID,
             class.value,
-            program_fields::cut(line, given.first),
-            program_fields::cut(line, given.second),
+            program_words::cut(line, given.first),
+            program_words::cut(line, given.second),
         );
         return about(r, true, d.value);
     }
@@ -107,7 +109,7 @@ fn invoke_with(table: &mut [u8], line: &[u8], given: Pair) -> Played {
 }
 
 fn invoke(table: &mut [u8], line: &mut [u8]) -> Played {
-    let given = program_fields::octets_of_two(line, b'\t', 5);
+    let given = program_words::octets_of_two(line, b'\t', 5);
     if given.ok {
         return invoke_with(table, line, given);
     }
@@ -116,14 +118,14 @@ fn invoke(table: &mut [u8], line: &mut [u8]) -> Played {
 
 // Only the parameter may be `-`.
 fn invokes(line: &[u8]) -> bool {
-    if program_fields::is(part(line, 5), b"-") {
+    if program_words::is(part(line, 5), b"-") {
         return false;
     }
     verb(line, b"invoke")
 }
 
 pub fn play(table: &mut [u8], rows: &mut [u8], space: &mut [u8], line: &mut [u8]) -> Played {
-    let n = program_fields::separators(line, b'\t');
+    let n = program_words::separators(line, b'\t');
     if n == 1 {
         return open_for(table, line);
     }

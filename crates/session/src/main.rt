@@ -15,7 +15,7 @@ fn play(table: &mut [u8], rows: &mut [u8], space: &mut [u8], line: &mut [u8], l:
     requires { ⌜ l .count ≤ length (now line) ⌝ }
 {
     if l.long {
-        program_text::bad(l.number, b'\t');
+        program_lines::bad(l.number, b'\t');
         return;
     }
     let n = l.count;

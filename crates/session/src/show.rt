@@ -2,20 +2,25 @@
 ghost use Prim.Native.Nat.{_≤_};
 ghost use lib.ListN.{length};
 use crate::call::Played;
+use paper::DIALOGUE_ACTIVE;
+use paper::DIALOGUE_OPEN;
+use paper::DIALOGUE_RECEIVED;
+use paper::DIALOGUE_SENT;
 use paper::PLACE_OCTETS;
 use paper::PLACES;
+use paper::STATE;
 
 fn number(out: &mut [u8], at: usize, n: u64) -> usize
     ensures { λ r. ⌜ r ≤ length (now (out .exit)) ⌝ }
 {
     let a = program_text::put(out, at, b'\t');
-    program_text::decimal(out, a, n)
+    program_digits::decimal(out, a, n)
 }
 
 // The state octet of a dialogue's place (docs/TABLE.md), 0 where the place is free.
 fn state_at(table: &[u8], dialogue: u32) -> u8 {
     let place = (dialogue / 16777216) as usize;
-    let at = PLACES + PLACE_OCTETS * place + 3;
+    let at = PLACES + PLACE_OCTETS * place + STATE;
     if at < table.len() {
         return table[at];
     }
@@ -26,16 +31,16 @@ fn state_word(out: &mut [u8], at: usize, state: u8) -> usize
     requires { ⌜ at ≤ length (now out) ⌝ }
     ensures { λ r. ⌜ r ≤ length (now (out .exit)) ⌝ }
 {
-    if state == 1 {
+    if state == DIALOGUE_OPEN {
         return program_text::word(out, at, b"\topen");
     }
-    if state == 2 {
+    if state == DIALOGUE_SENT {
         return program_text::word(out, at, b"\tsent");
     }
-    if state == 3 {
+    if state == DIALOGUE_RECEIVED {
         return program_text::word(out, at, b"\treceived");
     }
-    if state == 4 {
+    if state == DIALOGUE_ACTIVE {
         return program_text::word(out, at, b"\tactive");
     }
     program_text::word(out, at, b"\tidle")
@@ -48,7 +53,7 @@ fn dialogue(out: &mut [u8], at: usize, p: Played, table: &[u8]) -> usize
 {
     if p.told {
         let a = program_text::put(out, at, b'\t');
-        let b = program_listing::dialogue(out, a, p.dialogue);
+        let b = program_digits::dialogue(out, a, p.dialogue);
         return state_word(out, b, state_at(table, p.dialogue));
     }
     program_text::word(out, at, b"\t-\t-")
@@ -57,7 +62,7 @@ fn dialogue(out: &mut [u8], at: usize, p: Played, table: &[u8]) -> usize
 fn write(out: &mut [u8], line: u64, p: Played, table: &[u8], space: &[u8]) -> usize
     ensures { λ r. ⌜ r ≤ length (now (out .exit)) ⌝ }
 {
-    let a = program_text::decimal(out, 0, line);
+    let a = program_digits::decimal(out, 0, line);
     let b = number(out, a, p.answer as u64);
     let c = dialogue(out, b, p, table);
     let d = number(out, c, p.rows as u64);
@@ -73,5 +78,5 @@ pub fn line(number: u64, p: Played, table: &[u8], space: &[u8]) {
         program_text::say(&out, n);
         return;
     }
-    program_text::bad(number, b'\t');
+    program_lines::bad(number, b'\t');
 }

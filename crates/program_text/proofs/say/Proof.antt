@@ -5,14 +5,22 @@ use borrow.Author.Needs.{needs}
 use Rattle.program_text.proofs.say.Statement.{statement}
 use Rattle.program_text.proofs.say.Tie as tie
 
-slice-aggregate-write-all : tie.Need-slice-aggregate-write-all
-slice-aggregate-write-all c = sym (length-take-le _ _ (omega arith))
-
 write-all-requires : tie.Need-write-all-requires
 write-all-requires c κs = search needs
 
 returns : tie.Need-returns
 returns c = search needs
 
+slice-aggregate-write-all : tie.Need-slice-aggregate-write-all
+slice-aggregate-write-all c = sym (length-take-le _ _ (omega arith))
+
+write-all-requires-2 : tie.Need-write-all-requires-2
+write-all-requires-2 c κs = search needs
+
+returns-2 : tie.Need-returns-2
+returns-2 c = search needs
+
 pub say-spec : {M : Type 1} → statement M
-say-spec = tie.close (tie.spec slice-aggregate-write-all write-all-requires returns)
+say-spec =
+    tie.close
+    (tie.spec write-all-requires returns slice-aggregate-write-all write-all-requires-2 returns-2)

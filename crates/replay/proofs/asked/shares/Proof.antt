@@ -23,8 +23,8 @@ loop-holds c = search needs
 part-requires : tie.Need-part-requires Inv-loop μ-loop
 part-requires c κs = search needs
 
-decimal-requires : tie.Need-decimal-requires Inv-loop μ-loop
-decimal-requires c κs = search needs
+read-decimal-requires : tie.Need-read-decimal-requires Inv-loop μ-loop
+read-decimal-requires c κs = search needs
 
 same-length : tie.Need-same-length Inv-loop μ-loop
 same-length c = search needs
@@ -69,7 +69,7 @@ shares-spec =
     returns
     loop-holds
     part-requires
-    decimal-requires
+    read-decimal-requires
     same-length
     returns-2
     same-length-2
