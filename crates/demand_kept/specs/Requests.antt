@@ -11,8 +11,7 @@ use Rattle.paper.specs.Problems.{kindOf}
 use Rattle.paper.specs.Components.{noID}
 use Rattle.paper.specs.Writing.{invokeOctets, resultOctets, errorOctets, rejectOctets, Written, octetsOf}
 use Rattle.paper.specs.Invocations.{invocationOf, stateOf, toState, toIdle, passed, allTransmitted, mayReject}
-use Rattle.paper.specs.Dialogues.{Place, Request, Invoke, Result, Error, UserReject, Cancel, Begin, Continue, End, Prearranged, Abort, Unidirectional, Timeout, RejectTimeout, NoReaction, freed, begun, withControl, withState, withoutRejects, overfull, invokeRefusal, resultRefusal, errorRefusal, rejectRefusal, rejectedBy, afterSending, needsOpen, needsPeer, refusal, does}
-use Rattle.paper.specs.Rules.{hasPeer}
+use Rattle.paper.specs.Dialogues.{Place, Request, Invoke, Result, Error, UserReject, Cancel, Begin, Continue, End, Prearranged, Abort, Unidirectional, Timeout, RejectTimeout, NoReaction, hasPeer, freed, begun, withControl, withState, withoutRejects, overfull, invokeRefusal, resultRefusal, errorRefusal, rejectRefusal, rejectedBy, afterSending, needsOpen, needsPeer, refusal, does}
 use Rattle.demand_readback.specs.Written.{ResultTag, Allowed}
 use Rattle.table_laws.specs.Fine.{FinePeer, FineControl, FinePlace}
 use Rattle.table_laws.specs.Slots.{empty-fine}
@@ -219,8 +218,7 @@ module _ (x : Place) (f : FinePlace x) (used : x .control .state ≡ 0 → ⊥) 
   continue-goes-on : (fits : Bool) → needsPeer x ≡ 0 → GoesOn x (afterSending x fits 4)
   unfolding needsPeer
   continue-goes-on fits e =
-      by-eq _ _ _ _ (sym e) (λ a z. sent-goes-on fits 4 (omega arith) (omega arith) (peers .3 ∙ sym (ap hasPeer a ∙ peers .2)))
-      (λ a z. let b = was-eq _ _ _ _ z (λ z. omega arith) in sent-goes-on fits 4 (omega arith) (omega arith) (sym (ap hasPeer (b .0))))
+      sent-goes-on fits 4 (omega arith) (omega arith) (peers .3 ∙ sym (was-yes _ _ _ (sym e) (λ z. omega arith) .0))
 
 -- A REQUEST AS A CALLER CAN MAKE IT: IDs are octets, a linked one 256 for none, a result's tag is A2 or A7
 abbrev pub Formed : Request → Type 0

@@ -11,9 +11,9 @@ use Rattle.paper.specs.declared.Reject.{Reject}
 use Rattle.paper.specs.declared.Control.{Control}
 use Rattle.paper.specs.Sizes.{placesInAll, services, mostRejects, mostWaiting}
 use Rattle.paper.specs.Problems.{senderOfProblem, byLayer, kindOf}
-use Rattle.paper.specs.Components.{Item, noID, noFault, components}
+use Rattle.paper.specs.Components.{Item, noID, noFault, waitingItems}
 use Rattle.paper.specs.Invocations.{idle, slotOf}
-use Rattle.paper.specs.Dialogues.{dialogueFree, dialogueReceived, dialogueActive}
+use Rattle.paper.specs.Dialogues.{dialogueFree, dialogueActive, hasPeer}
 use Rattle.paper.specs.Shares.{sharesFit, sharesKept}
 use Rattle.paper.specs.Calls.{Table, guaranteeOf, limitOf, held}
 use Rattle.paper.specs.Layout.{stateAt, waitingLengthAt, waitingStart, placeBy, slot, mapBit, view}
@@ -51,9 +51,6 @@ rejectsKept zero (r ∷ l) = ifB (rejectZero r) (rejectsKept zero l) false
 rejectsKept (suc n) (r ∷ l) = ifB (rejectKept r) (rejectsKept n l) false
 
 -- "a peer ID has 1 to 4 octets in Received and Active and none in Open and Sent"
-unfoldable pub hasPeer : ℕ → Bool
-hasPeer state = ifEq state dialogueReceived true (eqb state dialogueActive)
-
 unfoldable pub peerKept : Control → Bool
 peerKept c =
     ifB (hasPeer (c .state)) (ifLt (c .peerlen) 1 false (ifLt 4 (c .peerlen) false (zeros (drop (c .peerlen) (c .peer)))))
@@ -75,7 +72,7 @@ unfoldable pub isSoundItem : Item → Bool
 isSoundItem i = eqb (i .part .fault) noFault
 
 unfoldable pub waitingKept : List ℕ → Bool
-waitingKept w = ifEq (length w) 0 true (every isSoundItem (components w (length w) 0))
+waitingKept w = every isSoundItem (waitingItems w)
 
 -- a place with a dialogue; its bit of the map is clear
 unfoldable pub usedKept : List ℕ → ℕ → Bool
