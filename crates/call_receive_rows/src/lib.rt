@@ -9,6 +9,7 @@ use dialogue_acts::Told;
 use paper::Component;
 use paper::Control;
 use paper::Invocation;
+use paper::NO_FAULT;
 use paper::Row;
 
 // One component: what is told of it, its ID and its row, and where the next one starts.
@@ -29,7 +30,7 @@ pub struct Shown {
 fn next_start(c: Component, lim: usize) -> usize
     ensures { λ r. ⌜ r ≡ nextStart lim c ⌝ }
 {
-    if c.fault == 3 {
+    if c.fault == NO_FAULT {
         return c.stop;
     }
     lim

@@ -1,14 +1,16 @@
 -- A CALL THAT SENDS: its prologue, and its ends. Assumes nothing.
 use mathlib.Core.Path.{_≡_, refl, ap, _∙_}
+use mathlib.Core.Bool.{Bool, true, false, cond}
 use mathlib.Core.List.{List, []}
 use Prim.Native.Nat.{ℕ, _<_, _≤_}
 use native.Mathlib.Omega.{arith}
 use lib.ListN.{length}
-use Rattle.laws.specs.If.{ifLt, ifEq, lt, ge, by-lt}
+use lib.Dec.{eqb}
+use Rattle.laws.specs.If.{ifLt, ifEq, ifB, lt, ge, by-lt}
 use Rattle.laws.specs.Runs.{Wrote}
 use Rattle.paper.specs.declared.Control.{Control}
 use Rattle.paper.specs.Portions.{Form, aarq, aare, audt}
-use Rattle.paper.specs.Dialogues.{Place, Request, done, refusal, does, peerOf, first, needsOpen, needsPeer, uniRefusal, portionRefusal, abortPortion, abortMessage}
+use Rattle.paper.specs.Dialogues.{Place, Request, done, refusal, does, peerOf, first, hasPeer, needsOpen, needsPeer, uniRefusal, portionRefusal, abortPortion, abortMessage}
 use Rattle.paper.specs.Writing.{userAbortOctets}
 use Rattle.paper.specs.Dialogues.Request.{Begin, Continue, End, Unidirectional}
 use Rattle.paper.specs.Calls.{placeAt, withPlace}
@@ -73,7 +75,16 @@ abbrev pub openRefusal : ℕ → ℕ
 openRefusal state = ifEq state 1 0 6
 
 abbrev pub peerRefusal : ℕ → ℕ
-peerRefusal state = ifEq state 3 0 (ifEq state 4 0 6)
+peerRefusal state = ifB (hasPeer state) 0 6
+
+pub peer-tests : (state : ℕ) → ifEq state 3 0 (ifEq state 4 0 6) ≡ peerRefusal state
+unfolding hasPeer ifEq ifB
+peer-tests state = go (eqb state 3) (eqb state 4)
+  where
+    go : (a b : Bool) → cond {A = ℕ} a 0 (cond b 0 6) ≡ cond (cond a true b) 0 6
+    go true b = refl
+    go false true = refl
+    go false false = refl
 
 -- what an abort writes, by the control record
 abbrev pub abortBy : Control → List ℕ → List ℕ
@@ -89,8 +100,12 @@ module _ (x : Place) (c : Control) (e : c ≡ x .control) where
   needs-peer n h = h ∙ ap (λ (k : Control). peerRefusal (k .state)) e
 
   pub abort-is : (given : List ℕ) → abortBy c given ≡ abortMessage x given
-  unfolding abortMessage needsPeer
-  abort-is given = ap (λ (k : Control). abortBy k given) e
+  unfolding abortMessage ifEq ifB
+  abort-is given = ap (λ (k : Control). abortBy k given) e ∙ go (hasPeer (x .control .state)) (userAbortOctets (peerOf (x .control)) (abortPortion given))
+    where
+      go : (b : Bool) (m : List ℕ) → cond (eqb (cond {A = ℕ} b 0 6) 0) m [] ≡ cond b m []
+      go true m = refl
+      go false m = refl
 
 -- ---- the state's number, else the portion's, by the form of its PDU
 module _ (x : Place) (name info : List ℕ) (a r : ℕ) where

@@ -11,9 +11,9 @@ use Rattle.laws.specs.If.{ifB, lt, ge, eq, ne, yes, no, by-lt, was-eq, was-ge, 
 use Rattle.laws.specs.Lists.{every}
 use Rattle.paper.specs.declared.Component.{Component}
 use Rattle.paper.specs.declared.Control.{Control}
-use Rattle.paper.specs.Components.{Item, componentAt, nextStart, goOn, items, components}
+use Rattle.paper.specs.Components.{Item, componentAt, nextStart, goOn, items, components, waitingItems}
 use Rattle.paper.specs.Portions.{Form, abrt, portionBy}
-use Rattle.paper.specs.Dialogues.{Place, isPortion, isBlock, isAbort, abortPortion, abortRefusal, ofClass4, uniRefusal}
+use Rattle.paper.specs.Dialogues.{Place, dialogueOpen, isPortion, isBlock, isAbort, abortPortion, abortRefusal, ofClass4, uniRefusal}
 use Rattle.writing_portions.specs.Forms.{formFor, form-4}
 use Rattle.writing_portions.specs.Spans.{information-over}
 
@@ -76,26 +76,33 @@ class4-sound c k e = was-eq _ _ _ _ (sym e) true-false .0
 
 -- ---- the number
 module _ (x : Place) (c : Control) (e : c ≡ x .control) where
-  pub uni-state : (c .state ≡ 1 → ⊥) → 6 ≡ uniRefusal x
+  pub uni-state : (c .state ≡ dialogueOpen → ⊥) → 6 ≡ uniRefusal x
   unfolding uniRefusal
   uni-state n = ne _ _ _ _ (λ z. n (ap (λ (k : Control). k .state) e ∙ z)) refl
 
-  module _ (h : c .state ≡ 1) (w : List ℕ) (a : w ≡ x .waiting) (b : Bool) (d : b ≡ every (ofClass4 c) (components w (length w) 0)) where
-    all-are : b ≡ every (ofClass4 (x .control)) (components (x .waiting) (length (x .waiting)) 0)
-    all-are =
-        d ∙ ap (λ (k : Control). every (ofClass4 k) (components w (length w) 0)) e
-        ∙ ap (λ (v : List ℕ). every (ofClass4 (x .control)) (components v (length v) 0)) a
-
-    is-open : x .control .state ≡ 1
+  module _ (h : c .state ≡ dialogueOpen) (w : List ℕ) (a : w ≡ x .waiting) where
+    is-open : x .control .state ≡ dialogueOpen
     is-open = sym (ap (λ (k : Control). k .state) e) ∙ h
 
-    pub uni-may : b ≡ true → 0 ≡ uniRefusal x
+    pub uni-none : length w ≡ 0 → 6 ≡ uniRefusal x
     unfolding uniRefusal
-    uni-may y = eq _ _ _ _ is-open (yes _ _ _ (sym all-are ∙ y) refl)
+    uni-none z = eq _ _ _ _ is-open (eq _ _ _ _ (sym (ap length a) ∙ z) refl)
 
-    pub uni-no : b ≡ false → 6 ≡ uniRefusal x
-    unfolding uniRefusal
-    uni-no y = eq _ _ _ _ is-open (no _ _ _ (sym all-are ∙ y) refl)
+    module _ (some : length w ≡ 0 → ⊥) (b : Bool) (d : b ≡ every (ofClass4 c) (components w (length w) 0)) where
+      all-are : b ≡ every (ofClass4 (x .control)) (waitingItems (x .waiting))
+      unfolding waitingItems
+      all-are =
+          d ∙ ap (λ (k : Control). every (ofClass4 k) (components w (length w) 0)) e
+          ∙ ap (every (ofClass4 (x .control))) (ne _ _ _ _ some refl)
+          ∙ ap (λ (v : List ℕ). every (ofClass4 (x .control)) (waitingItems v)) a
+
+      pub uni-may : b ≡ true → 0 ≡ uniRefusal x
+      unfolding uniRefusal
+      uni-may y = eq _ _ _ _ is-open (ne _ _ _ _ (λ z. some (ap length a ∙ z)) (yes _ _ _ (sym all-are ∙ y) refl))
+
+      pub uni-no : b ≡ false → 6 ≡ uniRefusal x
+      unfolding uniRefusal
+      uni-no y = eq _ _ _ _ is-open (ne _ _ _ _ (λ z. some (ap length a ∙ z)) (no _ _ _ (sym all-are ∙ y) refl))
 
 -- ---- a user abort's dialogue portion: user information begins with BE
 unfoldable pub isTold : List ℕ → Bool

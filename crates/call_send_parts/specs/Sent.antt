@@ -16,7 +16,7 @@ use Rattle.paper.specs.Invocations.{allTransmitted}
 use Rattle.paper.specs.Dialogues.{Place, noReject, withState, withoutRejects, allRejects, waitingRejects, rejectsFit, sentComponents, afterSending}
 use Rattle.paper.specs.Calls.{placeAt}
 use Rattle.paper.specs.Layout.{flag, view}
-use Rattle.paper.specs.Rules.{hasPeer}
+use Rattle.paper.specs.Dialogues.{hasPeer}
 use Rattle.table_laws.specs.Fine.{FineControl, FinePlace}
 use Rattle.table_laws.specs.Kept.{layer-small}
 use Rattle.table_laws.specs.Ready.{Ready}

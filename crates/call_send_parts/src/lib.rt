@@ -2,6 +2,7 @@
 use paper::ABRT;
 use paper::Component;
 use paper::Control;
+use paper::DIALOGUE_OPEN;
 use paper::Reject;
 ghost use mathlib.Core.Path.{_≡_};
 ghost use Prim.Native.Nat.{_+_, _<_, _≤_};
@@ -174,10 +175,13 @@ pub fn uni_refusal(t: &[u8], p: usize, c: Control) -> u32
     requires { ⌜ Holds (now t) p c ⌝ }
     ensures { λ r. ⌜ r ≡ uniRefusal (placeAt (view (now (t .entry))) p) ⌝ }
 {
-    if c.state != 1 {
+    if c.state != DIALOGUE_OPEN {
         return 6;
     }
     let w = table_places::waiting(t, p);
+    if w.len() == 0 {
+        return 6;
+    }
     if each_class4(w, c) {
         return 0;
     }

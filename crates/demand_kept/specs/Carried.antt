@@ -15,7 +15,7 @@ use Rattle.paper.specs.declared.Frame.{Frame}
 use Rattle.paper.specs.declared.Component.{Component}
 use Rattle.paper.specs.Elements.{lengthAt, element, frameAt}
 use Rattle.paper.specs.Problems.{noProblem}
-use Rattle.paper.specs.Components.{invokeTag, errorTag, rejectTag, noID, sound, faulty, single, someEnd, codeEnd, oneElement, lastPiece, invokePieces, resultBoth, resultPieces, problemAt, rejectPieces, nullPieces, piecesAfter, pieces, knownTag, readProblem, ifNested, framed, tagAt, componentAt}
+use Rattle.paper.specs.Components.{invokeTag, errorTag, rejectTag, noID, sound, faulty, single, someEnd, codeEnd, frameEnds, lastPiece, invokePieces, resultBoth, resultPieces, problemAt, rejectPieces, nullPieces, piecesAfter, pieces, knownTag, readProblem, ifNested, framed, tagAt, componentAt}
 use Rattle.reading_elements.specs.Bounds.{frame-in}
 use Rattle.reading_elements.specs.Carry.{Same, length-carry, element-carry, upFrame, frame-carry}
 use Rattle.reading_components.specs.Bounds.{code-in}
@@ -71,12 +71,12 @@ module _ (s t : List ℕ) (k : ℕ) where
         (λ a z. by-lt _ _ _ _ z (λ c z. absurd (omega arith))
         (λ c z. ge _ _ _ _ a (ge _ _ _ _ (omega arith) (omega arith)) ∙ ap (someEnd (k + e)) (length-carry s t k e (k + e) p q e (Given b n) i (omega arith) eq-q (omega arith) same)))
 
-    one-carry : (d : ℕ) → 0 < e → oneElement s d e p ≡ true → upFrame k (frameAt s d e p) ≡ frameAt t d (k + e) q
+    one-carry : (d : ℕ) → 0 < e → frameEnds s d e p ≡ true → upFrame k (frameAt s d e p) ≡ frameAt t d (k + e) q
     one-carry d h o =
         let z = eqb-true (frameAt s d e p .stop) e o in
         frame-carry s t k d d e (k + e) p q (omega arith) (frameAt s d e p) refl (omega arith) eq-q (omega arith) (λ i l u. same i l (omega arith))
 
-    one-there : (d : ℕ) → 0 < e → oneElement s d e p ≡ true → oneElement t d (k + e) q ≡ true
+    one-there : (d : ℕ) → 0 < e → frameEnds s d e p ≡ true → frameEnds t d (k + e) q ≡ true
     one-there d h o =
         let z = eqb-true (frameAt s d e p .stop) e o in
         eq-eqb (frameAt t d (k + e) q .stop) (k + e) (omega (arith, ap (λ (f : Frame). f .stop) (one-carry d h o)))

@@ -1,6 +1,6 @@
 -- THE COMPONENTS IN WAITING OCTETS are listed alike wherever the octets are copied to, and those put after them are listed after
 -- them (01, "Sending writes waiting components in order"). Assumes nothing.
-use mathlib.Core.Path.{_≡_, refl, sym, ap, _∙_}
+use mathlib.Core.Path.{_≡_, refl, sym, ap, subst, _∙_}
 use mathlib.Core.Bool.{Bool, true, false}
 use mathlib.Core.List.{List, [], _∷_, _++_, map, append-nil}
 use Prim.Native.Nat.{ℕ, zero, suc, _+_, _-_, _≤_, _<_}
@@ -10,20 +10,16 @@ use lib.Dec.{ltb}
 use lib.ListN.{length, getD, length-append, List·getD-append}
 use lib.Seq.{getD-append-add}
 use borrow.Author.Tests.{eqb-true, eq-eqb, ltb-true, ltb-false}
-use Rattle.laws.specs.If.{ifEq, eq, ne, yes, by-eq, was-yes, true-false}
+use Rattle.laws.specs.If.{eq, ne, yes, by-eq, was-yes, true-false}
 use Rattle.laws.specs.Lists.{every}
 use Rattle.paper.specs.declared.Component.{Component}
-use Rattle.paper.specs.Components.{componentAt, Item, item, nextStart, goOn, items, components}
+use Rattle.paper.specs.Components.{componentAt, Item, item, nextStart, goOn, items, components, waitingItems}
 use Rattle.paper.specs.Elements.{frameAt}
 use Rattle.paper.specs.Rules.{isSoundItem, waitingKept}
 use Rattle.reading_elements.specs.Bounds.{frame-in}
 use Rattle.reading_elements.specs.Carry.{Same}
 use Rattle.demand_readback.specs.Standing.{Has, has-all, has-same}
 use Rattle.demand_kept.specs.Carried.{further, component-stop, component-framed, component-carry}
-
--- the components in waiting octets, none where there are none
-unfoldable pub listing : List ℕ → List Item
-listing w = ifEq (length w) 0 [] (components w (length w) 0)
 
 -- the same component k octets further
 abbrev pub itemFurther : ℕ → Item → Item
@@ -32,12 +28,12 @@ itemFurther k i = record { start = k + i .start; part = further k (i .part) }
 abbrev pub allFurther : ℕ → List Item → List Item
 allFurther k l = map (itemFurther k) l
 
-pub listing-none : (w : List ℕ) → length w ≡ 0 → listing w ≡ []
-unfolding listing
+pub listing-none : (w : List ℕ) → length w ≡ 0 → waitingItems w ≡ []
+unfolding waitingItems
 listing-none w h = sym (eq _ _ _ _ h refl)
 
-pub listing-some : (w : List ℕ) → (length w ≡ 0 → ⊥) → listing w ≡ components w (length w) 0
-unfolding listing
+pub listing-some : (w : List ℕ) → (length w ≡ 0 → ⊥) → waitingItems w ≡ components w (length w) 0
+unfolding waitingItems
 listing-some w h = sym (ne _ _ _ _ h refl)
 
 -- SOUND ONES
@@ -58,7 +54,7 @@ sound-split i l h = let w = was-yes _ _ _ (sym h) true-false in (eqb-true (i .pa
 
 pub kept-sound : (w : List ℕ) → waitingKept w ≡ true → (length w ≡ 0 → ⊥) → Sound (components w (length w) 0)
 unfolding waitingKept
-kept-sound w h a = by-eq _ _ _ _ (sym h) (λ b _. absurd (a b)) (λ b z. sym z)
+kept-sound w h a = subst Sound (listing-some w a) h
 
 next-is : (lim : ℕ) (c : Component) → c .fault ≡ 3 → nextStart lim c ≡ c .stop
 unfolding nextStart
@@ -108,7 +104,7 @@ module _ (s t : List ℕ) (k lim lim′ : ℕ) (fits : k + lim ≤ lim′) (same
 
 -- WAITING OCTETS COPIED to at, and nothing after them
 pub listing-copied : (s w : List ℕ) (lim at : ℕ) → Has s at w → at + length w ≡ lim → waitingKept w ≡ true → (length w ≡ 0 → ⊥)
-    → components s lim at ≡ allFurther at (listing w)
+    → components s lim at ≡ allFurther at (waitingItems w)
 unfolding components More
 listing-copied s w lim at has whole kept some =
     items-further w s at (length w) lim (omega arith) (has-same has) [] (λ _. refl) (λ m h g. absurd (omega arith))
@@ -116,7 +112,7 @@ listing-copied s w lim at has whole kept some =
     ∙ append-nil (allFurther at (components w (length w) 0)) ∙ ap (allFurther at) (sym (listing-some w some))
 
 -- nowhere else
-listing-same : (w : List ℕ) → waitingKept w ≡ true → allFurther 0 (listing w) ≡ listing w
+listing-same : (w : List ℕ) → waitingKept w ≡ true → allFurther 0 (waitingItems w) ≡ waitingItems w
 listing-same w kept =
     by-eq {A = ℕ} (length w) 0 0 0 refl
     (λ z _. ap (allFurther 0) (listing-none w z) ∙ sym (listing-none w z))
@@ -127,32 +123,32 @@ pub empty-first : (w l : List ℕ) → length w ≡ 0 → w ++ l ≡ l
 empty-first [] l h = refl
 empty-first (x ∷ w) l h = absurd (omega arith)
 
-pub listing-append : (w l : List ℕ) → waitingKept w ≡ true → waitingKept l ≡ true → listing (w ++ l) ≡ listing w ++ allFurther (length w) (listing l)
+pub listing-append : (w l : List ℕ) → waitingKept w ≡ true → waitingKept l ≡ true → waitingItems (w ++ l) ≡ waitingItems w ++ allFurther (length w) (waitingItems l)
 unfolding components More
 listing-append w l a b = by-eq {A = ℕ} (length w) 0 0 0 refl (λ z _. first z) (λ z _. by-eq {A = ℕ} (length l) 0 0 0 refl (λ y _. last y) (λ y _. both z y))
   where
     n : length (w ++ l) ≡ length w + length l
     n = length-append w l
 
-    first : length w ≡ 0 → listing (w ++ l) ≡ listing w ++ allFurther (length w) (listing l)
+    first : length w ≡ 0 → waitingItems (w ++ l) ≡ waitingItems w ++ allFurther (length w) (waitingItems l)
     first z =
-        ap listing (empty-first w l z) ∙ sym (listing-same l b)
-        ∙ ap (λ (i : List Item). i ++ allFurther 0 (listing l)) (sym (listing-none w z))
-        ∙ ap (λ (k : ℕ). listing w ++ allFurther k (listing l)) (sym z)
+        ap waitingItems (empty-first w l z) ∙ sym (listing-same l b)
+        ∙ ap (λ (i : List Item). i ++ allFurther 0 (waitingItems l)) (sym (listing-none w z))
+        ∙ ap (λ (k : ℕ). waitingItems w ++ allFurther k (waitingItems l)) (sym z)
 
-    last : length l ≡ 0 → listing (w ++ l) ≡ listing w ++ allFurther (length w) (listing l)
+    last : length l ≡ 0 → waitingItems (w ++ l) ≡ waitingItems w ++ allFurther (length w) (waitingItems l)
     last y =
-        ap listing (empty-last w l y) ∙ sym (append-nil (listing w))
-        ∙ ap (λ (i : List Item). listing w ++ allFurther (length w) i) (sym (listing-none l y))
+        ap waitingItems (empty-last w l y) ∙ sym (append-nil (waitingItems w))
+        ∙ ap (λ (i : List Item). waitingItems w ++ allFurther (length w) i) (sym (listing-none l y))
       where
         empty-last : (w l : List ℕ) → length l ≡ 0 → w ++ l ≡ w
         empty-last w [] h = append-nil w
         empty-last w (x ∷ l) h = absurd (omega arith)
 
-    both : (length w ≡ 0 → ⊥) → (length l ≡ 0 → ⊥) → listing (w ++ l) ≡ listing w ++ allFurther (length w) (listing l)
+    both : (length w ≡ 0 → ⊥) → (length l ≡ 0 → ⊥) → waitingItems (w ++ l) ≡ waitingItems w ++ allFurther (length w) (waitingItems l)
     both z y =
         let sum : length (w ++ l) ≡ length w + length l = n in
-        let rest : List Item = allFurther (length w) (listing l) in
+        let rest : List Item = allFurther (length w) (waitingItems l) in
         let read : (m : ℕ) → length l < m → items (w ++ l) (length (w ++ l)) m (length w) ≡ rest =
         λ m h. items-further l (w ++ l) (length w) (length l) (length (w ++ l)) (omega arith) (λ i u h. getD-append-add w l i 0) [] (λ _. refl)
         (λ m h g. absurd (omega arith)) (length l - 0 + 1) m 0 (length w) (sym (add-zero (length w))) (omega arith) (omega arith) (kept-sound l b y)

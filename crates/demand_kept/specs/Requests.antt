@@ -11,8 +11,7 @@ use Rattle.paper.specs.Problems.{kindOf}
 use Rattle.paper.specs.Components.{noID}
 use Rattle.paper.specs.Writing.{invokeOctets, resultOctets, errorOctets, rejectOctets, Written, octetsOf}
 use Rattle.paper.specs.Invocations.{invocationOf, stateOf, toState, toIdle, passed, allTransmitted, mayReject}
-use Rattle.paper.specs.Dialogues.{Place, Request, Invoke, Result, Error, UserReject, Cancel, Begin, Continue, End, Prearranged, Abort, Unidirectional, Timeout, RejectTimeout, NoReaction, freed, withControl, withState, withoutRejects, overfull, invokeRefusal, resultRefusal, errorRefusal, rejectRefusal, rejectedBy, afterSending, needsOpen, needsPeer, refusal, does}
-use Rattle.paper.specs.Rules.{hasPeer}
+use Rattle.paper.specs.Dialogues.{Place, Request, Invoke, Result, Error, UserReject, Cancel, Begin, Continue, End, Prearranged, Abort, Unidirectional, Timeout, RejectTimeout, NoReaction, hasPeer, freed, withControl, withState, withoutRejects, overfull, invokeRefusal, resultRefusal, errorRefusal, rejectRefusal, rejectedBy, afterSending, needsOpen, needsPeer, refusal, does}
 use Rattle.demand_readback.specs.Written.{ResultTag, Allowed}
 use Rattle.table_laws.specs.Fine.{FineControl, FinePlace}
 use Rattle.table_laws.specs.Keeps.{begin-peer, continue-peer, passed-fine, to-state-fine, to-idle-fine, transmitted-fine, with-state-fine, without-rejects-fine}

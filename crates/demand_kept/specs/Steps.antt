@@ -18,7 +18,7 @@ use Rattle.paper.specs.Kinds.{rowUni, rowBegin, rowContinue, rowEnd, rowUserAbo
 use Rattle.paper.specs.Rows.{allActed, componentRows, dialogueRow, cancelRow}
 use Rattle.paper.specs.Dialogues.{Place, Request, Invoke, Result, Error, UserReject, Cancel, Begin, Continue, End, Prearranged, Abort, Unidirectional, Timeout, RejectTimeout, NoReaction, Done, emptyControl, begun, freed, withControl, timeoutRows, unlessRefused, refusal, does, request}
 use Rattle.paper.specs.Calls.{Table, placeAt, withPlace, lowestFree, Out, stored, requested, opened, octetsAt, destinationNumber, assigned, faultedAt, faulted, itemsOf, uniReceived, begunControl, beginAt, beginReceived, continuedControl, continueReceived, endReceived, abortReceived, toDialogue, soundReceived, received, receivedIf, Call, Open, OnDialogue, Receive, refuse, ofService, step}
-use Rattle.paper.specs.Rules.{hasPeer}
+use Rattle.paper.specs.Dialogues.{hasPeer}
 use Rattle.reading_messages.specs.Bounds.{MessageIn, message-in}
 use Rattle.table_laws.specs.Fine.{Octets, FinePeer, FineControl, Fine}
 use Rattle.table_laws.specs.Zeros.{zeros-of, pad-length, pad-rest}

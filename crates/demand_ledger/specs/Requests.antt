@@ -1,29 +1,25 @@
 -- A REQUEST OR TIMER EVENT that isn't refused: the ledger goes with the table, and the message holds what the ledger says. Assumes nothing.
 use mathlib.Core.Path.{_≡_, refl, sym, ap, subst, _∙_}
-use mathlib.Core.Bool.{Bool, true, false}
+use mathlib.Core.Bool.{Bool, true}
 use mathlib.Core.Option.{Option, some}
 use mathlib.Core.List.{List, [], _∷_, _++_}
 use Prim.Native.Nat.{ℕ, _+_, _≤_, _<_}
 use native.Mathlib.Omega.{arith}
 use lib.ListN.{length, length-append}
 use lib.Seq.{length-take-le}
-use borrow.Author.Tests.{eq-eqb, ne-eqb}
-use Rattle.laws.specs.If.{ifLt, ifEq, ifB, eq, ne, yes, no, by-eq, by-b, was-eq, was-ge, was-yes, either-eq, true-false}
-use Rattle.laws.specs.Lists.{every, firstAt, first-le}
+use Rattle.laws.specs.If.{ifEq, yes, no, by-eq, by-b, was-eq, was-ge, was-yes}
+use Rattle.laws.specs.Lists.{firstAt, first-le}
 use Rattle.paper.specs.declared.Invocation.{Invocation}
 use Rattle.paper.specs.declared.Control.{Control}
 use Rattle.paper.specs.Sizes.{placeOf, idOctets}
-use Rattle.paper.specs.Elements.{headAt, frameAt, tagEnd}
 use Rattle.paper.specs.Problems.{kindOf, noProblem}
-use Rattle.paper.specs.Components.{tagAt, componentAt, items, components}
 use Rattle.paper.specs.Writing.{Written, octetsOf, joined, beginOctets, continueOctets, endOctets, uniOctets}
 use Rattle.paper.specs.Invocations.{noInvocation, isIdle, idleSlot, inState, toIdle, passed}
 use Rattle.paper.specs.Messages.{beginTag, continueTag, endTag, uniTag}
 use Rattle.paper.specs.Portions.{Form, aarq, aare, audt, portionBy, Spoken, spokenIn}
-use Rattle.paper.specs.Dialogues.{Place, Request, withControl, freed, invokeRefusal, rejectRefusal, rejectedBy, peerOf, waitingRejects, sentComponents, afterSending, fitsWith, needsPeer, ofClass4, portionRefusal, uniRefusal, abortPortion, abortRefusal, abortMessage, refusal, does}
+use Rattle.paper.specs.Dialogues.{Place, Request, withControl, freed, invokeRefusal, rejectRefusal, rejectedBy, peerOf, waitingRejects, sentComponents, afterSending, fitsWith, hasPeer, needsPeer, portionRefusal, uniRefusal, abortPortion, abortRefusal, abortMessage, refusal, does}
 use Rattle.paper.specs.Dialogues.Request.{Invoke, Result, Error, UserReject, Cancel, Begin, Continue, End, Prearranged, Abort, Unidirectional, Timeout, RejectTimeout, NoReaction}
 use Rattle.paper.specs.Calls.{Table, placeAt, withPlace}
-use Rattle.paper.specs.Rules.{hasPeer}
 use Rattle.paper.specs.Outcome.{spacesOf}
 use Rattle.paper.specs.Contents.{Wire, contentOf}
 use Rattle.paper.specs.Asked.{becomes, newOne, userRejects}
@@ -65,34 +61,24 @@ invoke-room x id linked class op par e h =
     less n a b = omega arith
 
 -- THE PEER'S ID: "1 to 4 octets in Received and Active", where Continue isn't refused
-peer-told : (x : Place) → (needsPeer x ≡ 0 → hasPeer (x .control .state) ≡ true) × ((needsPeer x ≡ 0 → ⊥) → hasPeer (x .control .state) ≡ false)
-unfolding needsPeer hasPeer
-peer-told x = (
-  λ e. by-eq _ _ _ _ (sym e) (λ a _. sym (eq _ _ _ _ a refl)) (λ a z. let b = was-eq _ _ _ _ z (λ z. omega arith) in sym (ne _ _ _ _ a (sym (eq-eqb (x .control .state) 4 (b .0))))),
-  λ n. sym (ne _ _ _ _ (λ a. n (sym (eq _ _ _ _ a refl))) (sym (ne-eqb (x .control .state) 4 (λ b. n (sym (either-eq _ _ _ _ refl (eq _ _ _ _ b refl))))))),
-)
+peer-told : (x : Place) → needsPeer x ≡ 0 → hasPeer (x .control .state) ≡ true
+unfolding needsPeer
+peer-told x e = was-yes _ _ _ (sym e) (λ z. omega arith) .0
 
-needs-peer : (x : Place) → FinePlace x → needsPeer x ≡ 0 → (1 ≤ length (peerOf (x .control))) × (length (peerOf (x .control)) ≤ 4)
+needs-peer : (x : Place) → FinePlace x → hasPeer (x .control .state) ≡ true → (1 ≤ length (peerOf (x .control))) × (length (peerOf (x .control)) ≤ 4)
 needs-peer x f e =
     let c : Control = x .control in
     let n : length (peerOf c) ≡ c .peerlen = length-take-le (c .peerlen) (c .peer) (omega (arith, f .control .four, f .control .peer .most)) in
-    (omega (arith, n, f .control .peer .some (peer-told x .0 e)), omega (arith, n, f .control .peer .most))
+    (omega (arith, n, f .control .peer .some e), omega (arith, n, f .control .peer .most))
 
--- "Unidirectional with no component" is refused: no waiting octets are no component of class 4
-none-class4 : (c : Control) (w : List ℕ) → length w ≡ 0 → every (ofClass4 c) (components w (length w) 0) ≡ true → ⊥
-unfolding components items every ofClass4 componentAt frameAt headAt tagEnd ifLt ifEq ifB tagAt
-none-class4 c [] h e = true-false (sym e)
-none-class4 c (y ∷ w) h e = omega arith
-
+-- "Unidirectional with no component" is refused
 uni-some : (x : Place) (fits : Bool) → uniRefusal x ≡ 0 → length (sentComponents x fits) ≡ 0 → ⊥
 unfolding uniRefusal sentComponents
 uni-some x fits e z =
     let a = was-eq _ _ _ _ (sym e) (λ z. omega arith) in
-    let b = was-yes _ _ _ (a .1) (λ z. omega arith) in
-    none-class4 (x .control) (x .waiting)
-    (by-b {r = sentComponents x fits} _ _ _ refl
-    (λ _ q. omega (arith, ap length q, length-append (x .waiting) (waitingRejects (x .control)))) (λ _ q. omega (arith, ap length q)))
-    (b .0)
+    by-eq _ _ _ _ (a .1) (λ _ q. omega arith)
+    (λ some _. by-b {r = sentComponents x fits} _ _ _ refl
+    (λ _ q. some (omega (arith, ap length q, length-append (x .waiting) (waitingRejects (x .control))))) (λ _ q. some (omega (arith, ap length q))))
 
 -- WHAT A REQUEST LEAVES AND WRITES
 pub record Follows (T : Table) (L : Ledger) (d : ℕ) (r : Request) (y : Place) (m : List ℕ) : Type 0 where
@@ -219,7 +205,7 @@ module _ (T : Table) (f : Fine T) (L : Ledger) (g : Agrees T L) (d : ℕ) (e : E
           fits = uni-fits portion (cs portion) (few t);
         }
 
-  module _ (n : needsPeer x ≡ 0) where
+  module _ (n : hasPeer (x .control .state) ≡ true) where
     abbrev peer : List ℕ
     peer = peerOf (x .control)
 
@@ -262,19 +248,19 @@ module _ (T : Table) (f : Fine T) (L : Ledger) (g : Agrees T L) (d : ℕ) (e : E
       let a = was-yes _ _ _ (sym r) (λ z. omega arith) in
       let b = was-ge _ _ _ _ (a .1) (λ z. omega arith) in
       let portion : List ℕ = abortPortion given in
-      by-eq {r = abortMessage x given} _ _ _ _ refl
+      by-b {r = abortMessage x given} _ _ _ refl
       (λ n z. subst (D (Abort given) (freed x)) (sym z) (record {
         agrees = freed-on;
         says =
             user-abort-content (peer n) (told n .0) (told n .1) portion (abort-formed given (a .0) (b .0)) (b .0)
             ∙ ap (λ (v : Spoken). aborting (peer n) portion v noProblem) (abort-spoken given (a .0) (b .0))
             ∙ ap (λ (l : List ℕ). aborting l portion (abortSpoken given) noProblem) (is .peer)
-            ∙ yes _ _ _ (ap hasPeer (sym (is .state)) ∙ peer-told x .0 n) refl ∙ said-is (Abort given);
+            ∙ yes _ _ _ (ap hasPeer (sym (is .state)) ∙ n) refl ∙ said-is (Abort given);
         fits = user-abort-fits (peer n) (told n .0) (told n .1) portion (b .0);
       }))
       (λ n z. subst (D (Abort given) (freed x)) (sym z) (record {
         agrees = freed-on;
-        says = nothing-content ∙ no _ _ _ (ap hasPeer (sym (is .state)) ∙ peer-told x .1 n) refl ∙ said-is (Abort given);
+        says = nothing-content ∙ no _ _ _ (ap hasPeer (sym (is .state)) ∙ n) refl ∙ said-is (Abort given);
         fits = omega arith;
       }))
 
@@ -320,8 +306,8 @@ module _ (T : Table) (f : Fine T) (L : Ledger) (g : Agrees T L) (d : ℕ) (e : E
       (passes-on v (λ l. userRejects l id q) (rejectedBy (x .control) id q) (rejected-alike (x .control) id q) (passing 0 v w n) (rejects-ours id q w n))
   does-done (Cancel id) w n = quiet (Cancel id) _ refl (goes-idle id)
   does-done (Begin name info) w n = begin-done name info (first-none _ _ n .1)
-  does-done (Continue name info) w n = let r = first-none _ _ n in continue-done (r .0) name info (r .1)
-  does-done (End name info) w n = let r = first-none _ _ n in end-done (r .0) name info (r .1)
+  does-done (Continue name info) w n = let r = first-none _ _ n in continue-done (peer-told x (r .0)) name info (r .1)
+  does-done (End name info) w n = let r = first-none _ _ n in end-done (peer-told x (r .0)) name info (r .1)
   does-done Prearranged w n = quiet Prearranged _ refl freed-on
   does-done (Abort given) w n = abort-done given n
   does-done (Unidirectional name info) w n = let r = first-none _ _ n in uni-done name info (r .0) (r .1)

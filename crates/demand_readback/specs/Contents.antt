@@ -29,10 +29,10 @@ use Rattle.demand_readback.specs.Written.{Allowed, readAs, parameterOf, 
 use Rattle.demand_readback.specs.Given.{code-told, code-copied}
 use Rattle.demand_readback.specs.Pieces.{Tagged}
 use Rattle.demand_readback.specs.Kinds.{result-other}
-use Rattle.demand_readback.specs.Listing.{invoke-tagged, error-tagged, result-tagged, both-told, element-some, result-empty, octets-some, items-sound}
+use Rattle.demand_readback.specs.Listing.{invoke-tagged, error-tagged, result-tagged, both-told, element-some, result-empty, octets-some, items-sound, components-back}
 use Rattle.demand_readback.specs.Reading.{has-octets, end-has}
 use Rattle.demand_readback.specs.Places.{parameter-fits, parameter-there}
-use Rattle.demand_readback.specs.ReadBack.{begin-read-back, continue-read-back, end-read-back, user-abort-read-back, cause-abort-read-back, uni-read-back, message-components}
+use Rattle.demand_readback.specs.Order.{end-back, user-abort-back, cause-abort-back, begin-back, continue-back, uni-back}
 
 none-is : (l : List ℕ) → length l ≡ 0 → l ≡ []
 none-is [] h = refl
@@ -177,7 +177,7 @@ items-in {s} {own} {peer} {user} {m} (w ∷ ws) allowed few long back from =
     let n : ℕ = length (joined (w ∷ ws)) in
     let some : n ≡ 0 → ⊥ = λ z. omega (arith, octets-some w, length-append (octetsOf w) (joined ws)) in
     let f : length s - n ≡ fromOf (length s) n = ne n 0 0 (length s - n) some refl in
-    sym (ne _ _ _ _ (λ z. omega arith) (sym (message-components s m own peer user w ws back allowed (omega arith))))
+    sym (ne _ _ _ _ (λ z. omega arith) (components-back s (m .to) (m .from) w ws allowed (back .components) (omega arith) (back .ends)))
 
 content-back : {s own peer user : List ℕ} {m : Message} (ws : List Written) → AllAllowed ws → length (joined ws) ≤ 240 → (length (joined ws) < length s) × (length s ≤ 272)
     → (length s < 65536 → Back s m own peer user (joined ws)) → m .fault ≡ isSound → m .from ≡ fromOf (length s) (length (joined ws))
@@ -246,7 +246,7 @@ module _ (own : List ℕ) (some : 1 ≤ length own) (few : length own ≤ 4) whe
       → contentOf (beginOctets own portion (joined ws))
       ≡ Wire.Holds (record { tag = beginTag; origin = own; destination = []; portion = portion; spoken = spokenIn portion; cause = noProblem; components = ws })
   begin-content portion formed ws allowed most =
-      content-back ws allowed (omega arith) (begin-long portion (joined ws) most) (begin-read-back own some few portion formed (joined ws)) refl refl
+      content-back ws allowed (omega arith) (begin-long portion (joined ws) most) (begin-back own some few portion formed (joined ws)) refl refl
 
   module _ (peer : List ℕ) (least : 1 ≤ length peer) (less : length peer ≤ 4) where
     continue-long : (portion cs : List ℕ) → length portion + length cs ≤ 240
@@ -266,7 +266,7 @@ module _ (own : List ℕ) (some : 1 ≤ length own) (few : length own ≤ 4) whe
         ≡ Wire.Holds (record { tag = continueTag; origin = own; destination = peer; portion = portion; spoken = spokenIn portion; cause = noProblem; components = ws })
     continue-content portion formed ws allowed most =
         content-back ws allowed (omega arith) (continue-long portion (joined ws) most)
-        (continue-read-back own some few peer least less portion formed (joined ws)) refl refl
+        (continue-back own some few peer least less portion formed (joined ws)) refl refl
 
 module _ (peer : List ℕ) (some : 1 ≤ length peer) (few : length peer ≤ 4) where
   end-long : (portion cs : List ℕ) → length portion + length cs ≤ 240 → (length cs < length (endOctets peer portion cs)) × (length (endOctets peer portion cs) ≤ 272)
@@ -280,7 +280,7 @@ module _ (peer : List ℕ) (some : 1 ≤ length peer) (few : length peer ≤ 4) 
       → contentOf (endOctets peer portion (joined ws))
       ≡ Wire.Holds (record { tag = endTag; origin = []; destination = peer; portion = portion; spoken = spokenIn portion; cause = noProblem; components = ws })
   end-content portion formed ws allowed most =
-      content-back ws allowed (omega arith) (end-long portion (joined ws) most) (end-read-back peer some few portion formed (joined ws)) refl refl
+      content-back ws allowed (omega arith) (end-long portion (joined ws) most) (end-back peer some few portion formed (joined ws)) refl refl
 
   abort-long : (rest : List ℕ) → length rest ≤ 240 → (0 < length (tlv abortTag (tlv 0x49 peer ++ rest))) × (length (tlv abortTag (tlv 0x49 peer ++ rest)) ≤ 272)
   abort-long rest most = id-long abortTag 0x49 peer rest [] few (omega arith) (omega arith)
@@ -293,7 +293,7 @@ module _ (peer : List ℕ) (some : 1 ≤ length peer) (few : length peer ≤ 4) 
       → contentOf (userAbortOctets peer portion)
       ≡ Wire.Holds (record { tag = abortTag; origin = []; destination = peer; portion = portion; spoken = spokenIn portion; cause = noProblem; components = [] })
   unfolding userAbortOctets
-  user-abort-content portion formed most = abort-content (abort-long portion most) (user-abort-read-back peer some few portion formed) refl refl
+  user-abort-content portion formed most = abort-content (abort-long portion most) (user-abort-back peer some few portion formed) refl refl
 
   pub cause-abort-fits : (cause : ℕ) → length (causeAbortOctets peer cause) ≤ 272
   unfolding causeAbortOctets
@@ -304,7 +304,7 @@ module _ (peer : List ℕ) (some : 1 ≤ length peer) (few : length peer ≤ 4) 
       ≡ Wire.Holds (record { tag = abortTag; origin = []; destination = peer; portion = []; spoken = Spoken.Silent; cause = cause; components = [] })
   unfolding causeAbortOctets
   cause-abort-content cause small =
-      abort-content (abort-long (0x4A ∷ 1 ∷ cause ∷ []) (omega arith)) (λ _. cause-abort-read-back peer some few cause small) refl refl
+      abort-content (abort-long (0x4A ∷ 1 ∷ cause ∷ []) (omega arith)) (λ _. cause-abort-back peer some few cause small) refl refl
       ∙ ap (λ (w : Spoken). Wire.Holds (record { tag = abortTag; origin = []; destination = peer; portion = []; spoken = w; cause = cause; components = [] })) silent
 
 uni-long : (portion cs : List ℕ) → length portion + length cs ≤ 240 → (length cs < length (uniOctets portion cs)) × (length (uniOctets portion cs) ≤ 272)
@@ -318,4 +318,4 @@ pub uni-content : (portion : List ℕ) → isPortion portion ≡ true → (ws : 
     → length portion + length (joined ws) ≤ 240 → contentOf (uniOctets portion (joined ws))
     ≡ Wire.Holds (record { tag = uniTag; origin = []; destination = []; portion = portion; spoken = spokenIn portion; cause = noProblem; components = ws })
 uni-content portion formed ws allowed some most =
-    content-back ws allowed (omega arith) (uni-long portion (joined ws) most) (uni-read-back portion formed (joined ws) some) refl refl
+    content-back ws allowed (omega arith) (uni-long portion (joined ws) most) (uni-back portion formed (joined ws) some) refl refl

@@ -7,7 +7,6 @@ pub mod Listing
 pub mod Reading
 pub mod Order
 pub mod Places
-pub mod ReadBack
 pub mod Contents
 pub mod Upto
 pub mod Pdus

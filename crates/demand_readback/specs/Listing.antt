@@ -12,10 +12,9 @@ use Rattle.laws.specs.If.{ifEq, eq, yes, by-eq, was-yes, true-false}
 use Rattle.laws.specs.Lists.{every}
 use Rattle.paper.specs.declared.Reading.the-variants.{Ends}
 use Rattle.paper.specs.declared.Component.{Component}
-use Rattle.paper.specs.Sizes.{depths}
 use Rattle.paper.specs.Elements.{element, isElement}
 use Rattle.paper.specs.Problems.{noProblem}
-use Rattle.paper.specs.Components.{invokeTag, errorTag, rejectTag, knownTag, noID, sound, componentAt, Item, item, nextStart, goOn, items, components}
+use Rattle.paper.specs.Components.{invokeTag, errorTag, rejectTag, knownTag, noID, noFault, sound, componentAt, Item, item, nextStart, goOn, items, components}
 use Rattle.paper.specs.Dialogues.{isCode, isParameter, isResult}
 use Rattle.paper.specs.Rules.{isSoundItem}
 use Rattle.paper.specs.Writing.{tlv, idThen, invokeOctets, resultOctets, errorOctets, problemOctets, rejectOctets, Written, octetsOf, joined}
@@ -65,10 +64,10 @@ pub element-some : (d : ℕ) (l : List ℕ) → isElement d l ≡ true → lengt
 unfolding isElement
 element-some d l h z = let w = element-in l d (length l) 0 (Ends (length l)) (ended-at (length l) (element l d (length l) 0) h) in omega arith
 
--- A COMPONENT where it stands: it is an element of at most 16 depths, and is read as it was put in
+-- A COMPONENT where it stands is read as it was put in
 module _ (s : List ℕ) (lim at : ℕ) where
   Told : List ℕ → (ℕ → Component) → Type 0
-  Told o f = Has s at o → length o < 65536 → at + length o ≤ lim → (Ends (at + length o) ≡ element s depths lim at) × (f (at + length o) ≡ componentAt s lim at)
+  Told o f = Has s at o → length o < 65536 → at + length o ≤ lim → f (at + length o) ≡ componentAt s lim at
 
   invoke-told : (id linked : ℕ) (op par : List ℕ) → Allowed (Invoke id linked op par) → Told (invokeOctets id linked op par) (readAs (Invoke id linked op par))
   unfolding Told readAs
@@ -118,8 +117,8 @@ module _ (s : List ℕ) (lim at : ℕ) where
       (λ has fits room. glue rejectTag (idThen id (problemOctets p)) f reject-tagged has fits room
       (λ b e h w. subst (Reads s rejectTag b e) (sym (placed-none rejectTag id noID p e 0 refl)) (reject-reads p by id (omega arith) h w))))
 
-  pub component-told : (w : Written) → Allowed w → Has s at (octetsOf w) → length (octetsOf w) < 65536 → at + length (octetsOf w) ≤ lim
-      → (Ends (at + length (octetsOf w)) ≡ element s depths lim at) × (readAs w (at + length (octetsOf w)) ≡ componentAt s lim at)
+  component-told : (w : Written) → Allowed w → Has s at (octetsOf w) → length (octetsOf w) < 65536 → at + length (octetsOf w) ≤ lim
+      → readAs w (at + length (octetsOf w)) ≡ componentAt s lim at
   unfolding Told octetsOf
   component-told (Invoke id linked op par) a = invoke-told id linked op par a
   component-told (Result tag id op par) a = result-told tag id op par a
@@ -137,10 +136,10 @@ octets-some (Reject id p) = omega arith
 -- the next starts where a sound one ends
 next-back : (lim x : ℕ) (w : Written) → x ≡ nextStart lim (readAs w x)
 unfolding nextStart readAs
-next-back lim x (Invoke id linked op par) = eq 3 3 x lim refl refl
-next-back lim x (Result tag id op par) = eq 3 3 x lim refl refl
-next-back lim x (Error id err par) = eq 3 3 x lim refl refl
-next-back lim x (Reject id p) = eq 3 3 x lim refl refl
+next-back lim x (Invoke id linked op par) = eq noFault noFault x lim refl refl
+next-back lim x (Result tag id op par) = eq noFault noFault x lim refl refl
+next-back lim x (Error id err par) = eq noFault noFault x lim refl refl
+next-back lim x (Reject id p) = eq noFault noFault x lim refl refl
 
 module _ (s : List ℕ) (lim : ℕ) where
   Items : ℕ → ℕ → List Written → List Item → Type 0
@@ -166,7 +165,7 @@ module _ (s : List ℕ) (lim : ℕ) where
       let sum = length-append (octetsOf w) (joined ws) in
       let x : ℕ = at + length (octetsOf w) in
       let c : readAs w x ≡ componentAt s lim at =
-      component-told s lim at w (allowed .0) (has-first (octetsOf w) (joined ws) has) (omega arith) (omega arith) .1 in
+      component-told s lim at w (allowed .0) (has-first (octetsOf w) (joined ws) has) (omega arith) (omega arith) in
       let next : x ≡ nextStart lim (componentAt s lim at) = next-back lim x w ∙ ap (nextStart lim) c in
       ap (λ (p : Component). record { start = at; part = p } ∷ itemsFrom x ws) c
       ∙ ap (λ (l : List Item). item s lim at ∷ l)
@@ -179,7 +178,7 @@ module _ (s : List ℕ) (lim : ℕ) where
   components-back at w ws allowed has fits whole = items-back (lim - at + 1) at w ws allowed has fits whole (omega arith)
 
 -- each is sound
-read-sound : (w : Written) (x : ℕ) → readAs w x .fault ≡ 3
+read-sound : (w : Written) (x : ℕ) → readAs w x .fault ≡ noFault
 unfolding readAs
 read-sound (Invoke id linked op par) x = refl
 read-sound (Result tag id op par) x = refl
@@ -191,4 +190,4 @@ unfolding itemsFrom every isSoundItem
 items-sound at [] = refl
 items-sound at (w ∷ ws) =
     let x : ℕ = at + length (octetsOf w) in
-    sym (yes _ _ _ (eq-eqb (readAs w x .fault) 3 (read-sound w x)) (sym (items-sound x ws)))
+    sym (yes _ _ _ (eq-eqb (readAs w x .fault) noFault (read-sound w x)) (sym (items-sound x ws)))

@@ -14,7 +14,7 @@ use Rattle.paper.specs.declared.Component.{Component}
 use Rattle.paper.specs.Sizes.{depths}
 use Rattle.paper.specs.Elements.{constructor, element, frameAt, isElement}
 use Rattle.paper.specs.Problems.{noProblem}
-use Rattle.paper.specs.Components.{knownTag, sound, faulty, single, codeEnd, oneElement, lastPiece, piecesAfter, pieces, readProblem, ifNested, framed, tagAt, componentAt}
+use Rattle.paper.specs.Components.{knownTag, sound, faulty, single, codeEnd, frameEnds, lastPiece, piecesAfter, pieces, readProblem, ifNested, framed, tagAt, componentAt}
 use Rattle.paper.specs.Writing.{tlv}
 use Rattle.writing_octets.specs.Lengths.{elementSize, element-length}
 use Rattle.demand_readback.specs.Standing.{Has, Stands, short-element, has-head, has-first, has-rest, ShortTag, Parts, done, more, begins, ends, octet-back, contents-back, holds-back, frame-back}
@@ -62,7 +62,7 @@ module _ {s : List ℕ} {p e d : ℕ} {op par : List ℕ} (g : Both s p e d op p
   pub both-some : 0 < p + length op
   both-some = omega (arith, g .code .least, g .code .whole)
 
-  pub both-par : (length par ≡ 0 → ⊥) → oneElement s d e (p + length op) ≡ true
+  pub both-par : (length par ≡ 0 → ⊥) → frameEnds s d e (p + length op) ≡ true
   both-par some = eq-eqb (frameAt s d e (p + length op) .stop) e (ends-frame s d e (p + length op) (p + length op + length par) (par-element some) ∙ g .whole)
 
 -- a parameter's place
@@ -99,7 +99,7 @@ Tagged t = ShortTag t × (constructor t ≡ 1) × (knownTag t ≡ true)
 
 -- THE COMPONENT, of its pieces
 module _ {s : List ℕ} {lim at t : ℕ} {c : List ℕ} (w : Stands s lim at t c) where
-  pub component-element : constructor t ≡ 1 → {x : Component} → Reads s t (begins at (length c)) (ends at (length c)) x → Ends (ends at (length c)) ≡ element s depths lim at
+  component-element : constructor t ≡ 1 → {x : Component} → Reads s t (begins at (length c)) (ends at (length c)) x → Ends (ends at (length c)) ≡ element s depths lim at
   component-element cons r = holds-back w cons depths (λ z. omega arith) (r .parts)
 
   pub component-back : constructor t ≡ 1 → knownTag t ≡ true → {x : Component} → Reads s t (begins at (length c)) (ends at (length c)) x → x ≡ componentAt s lim at
@@ -131,10 +131,9 @@ id-reads {s} {t} {b} {e} {id} {rest} has room small parts is =
 -- THE COMPONENT, of the octets that it was written as
 pub glue : {s : List ℕ} {lim at : ℕ} (t : ℕ) (c : List ℕ) (f : ℕ → Component) → Tagged t → Has s at (tlv t c) → length (tlv t c) < 65536 → at + length (tlv t c) ≤ lim
     → ((b e : ℕ) → Has s b c → b + length c ≡ e → Reads s t b e (f e))
-    → (Ends (at + length (tlv t c)) ≡ element s depths lim at) × (f (at + length (tlv t c)) ≡ componentAt s lim at)
+    → f (at + length (tlv t c)) ≡ componentAt s lim at
 glue {s} {lim} {at} t c f g has fits room reads =
     let size : length (tlv t c) ≡ elementSize (length c) = element-length t c in
     let w : Stands s lim at t c = record { has = has; short = g .0; fits = omega arith; room = omega arith } in
     let z : at + length (tlv t c) ≡ ends at (length c) = omega arith in
-    let r = reads (begins at (length c)) (ends at (length c)) (contents-back w) refl in
-    (ap Ends z ∙ component-element w (g .1) r, ap f z ∙ component-back w (g .1) (g .2) r)
+    ap f z ∙ component-back w (g .1) (g .2) (reads (begins at (length c)) (ends at (length c)) (contents-back w) refl)

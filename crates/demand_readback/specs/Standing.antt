@@ -9,7 +9,6 @@ use lib.ListN.{length, getD, length-append, List·getD-append}
 use lib.Seq.{getD-append-add}
 use borrow.Author.Tests.{eq-eqb, ne-eqb}
 use Rattle.laws.specs.If.{lt, ge, eq, ne, by-lt}
-use Rattle.laws.specs.Runs.{Wrote, inside}
 use Rattle.paper.specs.declared.Length.the-variants.{Given}
 use Rattle.paper.specs.declared.Head.{Head}
 use Rattle.paper.specs.declared.Head.the-variants.{Whole, Holds}
@@ -24,10 +23,6 @@ use Rattle.writing_octets.specs.Lengths.{length-one, length-two, length-three}
 -- s has the octets vs from at on
 pub record Has (s : List ℕ) (at : ℕ) (vs : List ℕ) : Type 0 where
   pub octet : (i : ℕ) → i < length vs → getD s (at + i) 0 ≡ getD vs i 0
-
--- what a run wrote stands there
-pub has-wrote : {l m : List ℕ} {at r : ℕ} {vs : List ℕ} → Wrote l at vs r m → at + length vs ≤ length l → Has m at vs
-has-wrote {l} {m} {at} {r} {vs} w room = record { octet = λ i h. ap (λ (k : List ℕ). getD k (at + i) 0) (w .holds) ∙ inside l at vs i h room }
 
 pub has-all : (s : List ℕ) → Has s 0 s
 has-all s = record { octet = λ i h. ap (λ (k : ℕ). getD s k 0) (zero-add i) }

@@ -10,7 +10,7 @@ use Rattle.laws.specs.Lists.{every}
 use Rattle.laws.specs.Sums.{sum}
 use Rattle.paper.specs.Sizes.{placesInAll, services, mostInvocations, mostWaiting, longestMessage, placeOf}
 use Rattle.paper.specs.Problems.{senderOfProblem, byUser, kindOf}
-use Rattle.paper.specs.Components.{components}
+use Rattle.paper.specs.Components.{waitingItems}
 use Rattle.paper.specs.Writing.{invokeOctets, resultOctets, errorOctets, rejectOctets}
 use Rattle.paper.specs.Invocations.{idle, sent, wait, idleSlot, invocationOf, stateOf, mayReject}
 use Rattle.paper.specs.Portions.{Form, aarq, aare, audt, portionBy}
@@ -91,7 +91,7 @@ casesOf x Prearranged = []
 casesOf x (Abort given) = (11, not (isBlock given || isPortion given)) ∷ (12, ltb mostWaiting (length (abortPortion given))) ∷ []
 casesOf x (Unidirectional name info) =
     (6, not (isIn x dialogueOpen)) ∷ (6, eqb (length (x .waiting)) 0)
-    ∷ (6, not (every (ofClass4 (x .control)) (components (x .waiting) (length (x .waiting)) 0))) ∷ portionCases x audt name info []
+    ∷ (6, not (every (ofClass4 (x .control)) (waitingItems (x .waiting)))) ∷ portionCases x audt name info []
 casesOf x (Timeout id) = (9, not (idIn x id sent)) ∷ []
 casesOf x (RejectTimeout id) = (9, not (idIn x id wait)) ∷ []
 casesOf x NoReaction = (6, not (isIn x dialogueSent)) ∷ []

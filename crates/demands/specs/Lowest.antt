@@ -10,12 +10,11 @@ use borrow.Author.Tests.{ltb-true, ltb-false, leb-true, le-leb, lt-leb, eqb-true
 use Rattle.laws.specs.If.{ifLt, ifEq, ifB, true-false, eq, ne, by-eq, all}
 use Rattle.laws.specs.Lists.{every}
 use Rattle.laws.specs.Sums.{sum}
-use Rattle.paper.specs.declared.Control.{Control}
 use Rattle.paper.specs.Sizes.{placesInAll, services, placeOf}
-use Rattle.paper.specs.Components.{components}
+use Rattle.paper.specs.Components.{waitingItems}
 use Rattle.paper.specs.Writing.{invokeOctets, resultOctets, errorOctets, rejectOctets}
 use Rattle.paper.specs.Portions.{Form, aarq, aare, audt, portionBy}
-use Rattle.paper.specs.Dialogues.{Place, Request, dialogueOpen, dialogueReceived, dialogueActive, isPortion, isBlock, isAbort, ofClass4, overfull, first as firstOf, unplaced, portionRefusal, invokeRefusal, resultRefusal, errorRefusal, rejectRefusal, needs, needsOpen, needsPeer, needsSent, uniRefusal, abortPortion, abortRefusal, refusal, does, request, unlessRefused}
+use Rattle.paper.specs.Dialogues.{Place, Request, dialogueOpen, dialogueReceived, dialogueActive, isPortion, isBlock, isAbort, hasPeer, ofClass4, overfull, first as firstOf, unplaced, portionRefusal, invokeRefusal, resultRefusal, errorRefusal, rejectRefusal, needs, needsOpen, needsPeer, needsSent, uniRefusal, abortPortion, abortRefusal, refusal, does, request, unlessRefused}
 use Rattle.paper.specs.Dialogues.Request.{Invoke, Result, Error, UserReject, Cancel, Begin, Continue, End, Prearranged, Abort, Unidirectional, Timeout, RejectTimeout, NoReaction}
 use Rattle.paper.specs.Shares.{Resource, shared, limitFits, sharesFit}
 use Rattle.paper.specs.Calls.{Table, Call, Out, placeAt, stored, requested, opened, receivedIf, step}
@@ -24,7 +23,6 @@ use Rattle.paper.specs.Messages.{messageOf}
 use Rattle.paper.specs.Counting.{serviceOf}
 use Rattle.paper.specs.Layout.{view}
 use Rattle.paper.specs.Outcome.{Lent, Outcome, standing, shown, outcome, freshAnswer, freshOutcome}
-use Rattle.paper.specs.Computing.{computed}
 use Rattle.demand_kept.specs.Steps.{does-answers}
 use Rattle.demands.specs.Applies.{Case, among, isIn, over, given, unnamed, inActive, portionCases, casesOf, casesIn, cases, applies, some, freshCases, freshApplies, Lowest}
 use Rattle.demands.specs.Tails.{received-quiet}
@@ -133,32 +131,21 @@ unfolding overfull
 over-is x l = is-lt itself _ _ _ _ refl refl
 
 peer-is : (x : Place) → needsPeer x ≡ ifB (not (isIn x dialogueReceived || isIn x dialogueActive)) 6 0
-unfolding needsPeer ifEq ifB
+unfolding needsPeer hasPeer ifEq ifB
 peer-is x = go (eqb (x .control .state) dialogueReceived) (eqb (x .control .state) dialogueActive)
   where
-    go : (a b : Bool) → cond {A = ℕ} a 0 (cond b 0 6) ≡ cond (not (a || b)) 6 0
+    go : (a b : Bool) → cond {A = ℕ} (cond a true b) 0 6 ≡ cond (not (a || b)) 6 0
     go true b = refl
     go false true = refl
     go false false = refl
 
--- every waiting component is of class 4; no octets are no component: read as some, they are at fault
+-- every waiting component is of class 4
 abbrev ofClasses : Place → Bool
-ofClasses x = every (ofClass4 (x .control)) (components (x .waiting) (length (x .waiting)) 0)
-
-none-fails : (c : Control) (w : List ℕ) → length w ≡ 0 → every (ofClass4 c) (components w (length w) 0) ≡ false
-unfolding computed
-none-fails c [] e = refl
-none-fails c (x ∷ w) e = absurd (omega arith)
+ofClasses x = every (ofClass4 (x .control)) (waitingItems (x .waiting))
 
 uni-is : (x : Place) → uniRefusal x ≡ ifB (not (isIn x dialogueOpen)) 6 (ifB (eqb (length (x .waiting)) 0) 6 (ifB (not (ofClasses x)) 6 0))
-unfolding uniRefusal ifB
-uni-is x = not-eq itself _ _ _ _ (go (eqb (length (x .waiting)) 0) refl (ofClasses x) refl) refl
-  where
-    go : (a : Bool) → eqb (length (x .waiting)) 0 ≡ a → (b : Bool) → ofClasses x ≡ b → cond {A = ℕ} b 0 6 ≡ cond a 6 (cond (not b) 6 0)
-    go true e true q = absurd (true-false (sym q ∙ none-fails (x .control) (x .waiting) (eqb-true (length (x .waiting)) 0 e)))
-    go true e false q = refl
-    go false e true q = refl
-    go false e false q = refl
+unfolding uniRefusal
+uni-is x = not-eq itself _ _ _ _ (is-eq itself _ _ _ _ refl (not-b itself _ _ _ refl refl)) refl
 
 -- A SENDING: its state's refusal, else its portion's. What a test gives comes first
 test-first : (b : Bool) (n q m : ℕ) {r : ℕ} → 0 < n → (b ≡ false → firstOf q m ≡ r) → firstOf (ifB b n q) m ≡ ifB b n r

@@ -6,8 +6,8 @@ use Rattle.laws.specs.If.{ifLt, ifEq, ifB}
 use Rattle.paper.specs.declared.Component.{Component}
 use Rattle.paper.specs.declared.Invocation.{Invocation}
 use Rattle.paper.specs.declared.Row.{Row}
-use Rattle.paper.specs.Problems.{problem, kindOf, noProblem}
-use Rattle.paper.specs.Components.{Item, rejectTag}
+use Rattle.paper.specs.Problems.{problem, kindOf}
+use Rattle.paper.specs.Components.{Item, rejectTag, noFault, ifRead}
 use Rattle.paper.specs.Invocations.{idle, pending, sent, wait, rejecting, noInvocation, inState, transmitted, isAnswer}
 
 -- ours of an ID, in Idle where it isn't in use
@@ -43,13 +43,13 @@ wasShown v = record { id = v .id; class = v .class; state = v .state; shown = 1 
 
 -- "A faulty A2, A3, A7 returns its Sent invocation to Idle"; a faulty A4 "only if ID and tag 81 can be read"
 unfoldable pub faultHeard : Component → Invocation → Invocation
-faultHeard p v = ifEq (p .tag) rejectTag (ifEq (p .problem) noProblem v (releases v)) (ifB (isAnswer (p .tag)) (releases v) v)
+faultHeard p v = ifEq (p .tag) rejectTag (ifRead (p .problem) (releases v) v) (ifB (isAnswer (p .tag)) (releases v) v)
 
 -- by a reject of ours, with a problem: "Any other of A2, A7 (result code 1) or A3 (error code 1) on a Sent one is rejected and Idle.
 -- A2, A7, A3 on one not Sent: rejected with code 0, no change."; of an invoke, with code 5: "Ours is unchanged"
 unfoldable pub rejectHeard : ℕ → Component → Invocation → Invocation
 rejectHeard q p v =
-    ifEq q (problem 2 1) noInvocation (ifEq q (problem 3 1) noInvocation (ifEq (p .fault) 3 v (faultHeard p v)))
+    ifEq q (problem 2 1) noInvocation (ifEq q (problem 3 1) noInvocation (ifEq (p .fault) noFault v (faultHeard p v)))
 
 -- WHAT A COMPONENT TELLS of our invocation of its ID, by its row's kind and problem and as it was read. 7 INVOKE: "Ours is unchanged";
 -- 8 RESULT-L and 10 U-ERROR: "A2, A3 to Wait"; 9 RESULT-NL: "A7 stays Sent"; 11 and 12: "Received reject with invoke or general problem:

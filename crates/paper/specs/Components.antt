@@ -38,7 +38,18 @@ knownTag t = ifEq t invokeTag true (ifEq t lastTag true (ifEq t errorTag true (i
 abbrev pub noID : ℕ
 noID = 256
 
--- what a component's fault is where it has none; else it is the code of a general problem
+-- A COMPONENT'S FAULT, the code of a general problem (004: unrecognized, mistyped, badly structured component): "unknown tag 0; ..
+-- wrong, missing or extra piece 1"; "bad nesting 2", as no frame is
+abbrev pub unrecognized : ℕ
+unrecognized = 0
+
+abbrev pub mistyped : ℕ
+mistyped = 1
+
+abbrev pub badlyStructured : ℕ
+badlyStructured = 2
+
+-- no fault
 abbrev pub noFault : ℕ
 noFault = 3
 
@@ -46,7 +57,7 @@ noFault = 3
 abbrev pub sound : ℕ → ℕ → ℕ → ℕ → ℕ → ℕ → ℕ → Component
 sound t id l p x q r = record { tag = t; id = id; linked = l; problem = p; fault = noFault; stop = x; par = q; parstop = r }
 
--- one with a syntax fault: the general problem's code, and the problem's tag as far as it was read
+-- one with a syntax fault; its problem is a reject's, as far as it was read
 abbrev pub faulty : ℕ → ℕ → ℕ → ℕ → ℕ → Component
 faulty t id p code x = record { tag = t; id = id; linked = noID; problem = p; fault = code; stop = x; par = 0; parstop = 0 }
 
@@ -69,16 +80,17 @@ codeEnd s e p =
     0))
     0
 
--- "A parameter is one element": one that begins at p, at most d depths, and ends at e
-abbrev pub oneElement : List ℕ → ℕ → ℕ → ℕ → Bool
-oneElement s d e p = eqb (frameAt s d e p .stop) e
+-- "A parameter is one element": the frame of the element at p ends at e, so that nothing follows. That what stands in the frame is
+-- well formed is no question here: the pieces are read only of a component that is, with all in it (framed)
+abbrev pub frameEnds : List ℕ → ℕ → ℕ → ℕ → Bool
+frameEnds s d e p = eqb (frameAt s d e p .stop) e
 
 -- after an operation or error that ends at q: nothing, or a parameter and nothing more
 unfoldable pub lastPiece : List ℕ → ℕ → ℕ → ℕ → ℕ → ℕ → ℕ → Component
 lastPiece s t id l x e q =
-    ifEq q 0 (faulty t id noProblem 1 x)
+    ifEq q 0 (faulty t id noProblem mistyped x)
     (ifEq q e (sound t id l noProblem x 0 0)
-    (ifB (oneElement s (depthsFrom 2) e q) (sound t id l noProblem x q e) (faulty t id noProblem 1 x)))
+    (ifB (frameEnds s (depthsFrom 2) e q) (sound t id l noProblem x q e) (faulty t id noProblem mistyped x)))
 
 -- the linked ID stands after the invoke ID, at p; the operation after it
 unfoldable pub invokePieces : List ℕ → ℕ → ℕ → ℕ → ℕ → Component
@@ -89,18 +101,18 @@ invokePieces s id x e p =
 -- inside the 30: operation and parameter, both
 unfoldable pub resultBoth : List ℕ → ℕ → ℕ → ℕ → ℕ → ℕ → Component
 resultBoth s t id x e q =
-    ifEq q 0 (faulty t id noProblem 1 x)
-    (ifB (oneElement s (depthsFrom 3) e q) (sound t id noID noProblem x q e) (faulty t id noProblem 1 x))
+    ifEq q 0 (faulty t id noProblem mistyped x)
+    (ifB (frameEnds s (depthsFrom 3) e q) (sound t id noID noProblem x q e) (faulty t id noProblem mistyped x))
 
 -- "result 30 holding operation and parameter"; "Invoke, result and error may lack it; a result lacks the whole 30 then"
 unfoldable pub resultPieces : List ℕ → ℕ → ℕ → ℕ → ℕ → ℕ → Component
 resultPieces s t id x e p =
     ifEq p e (sound t id noID noProblem x 0 0)
     (ifEq (getD s p 0) 0x30
-    (ifB (oneElement s (depthsFrom 2) e p)
+    (ifB (frameEnds s (depthsFrom 2) e p)
     (resultBoth s t id x (frameAt s (depthsFrom 2) e p .to) (codeEnd s (frameAt s (depthsFrom 2) e p .to) (frameAt s (depthsFrom 2) e p .from)))
-    (faulty t id noProblem 1 x))
-    (faulty t id noProblem 1 x))
+    (faulty t id noProblem mistyped x))
+    (faulty t id noProblem mistyped x))
 
 -- "80 general, 81 invoke, 82 result, 83 error, length 1", with nothing after it; "other codes are a syntax error"
 unfoldable pub problemAt : List ℕ → ℕ → ℕ → ℕ
@@ -112,21 +124,28 @@ problemAt s e p =
     noProblem))
     noProblem
 
--- "tag 81 can be read" after the ID, at p
-unfoldable pub invokeProblem : List ℕ → ℕ → ℕ → ℕ
-invokeProblem s e p = ifLt p e (ifEq (getD s p 0) 0x81 (problem 1 0) noProblem) noProblem
+-- A FAULTY REJECT "returns one to Idle only if ID and tag 81 can be read": the tag stands after the ID, at p. Its problem is then an
+-- invoke problem, whatever its code; else none
+abbrev pub someInvokeProblem : ℕ
+someInvokeProblem = problem 1 0
+
+unfoldable pub tag81 : List ℕ → ℕ → ℕ → ℕ → ℕ
+tag81 s id e p = ifEq id noID noProblem (ifLt p e (ifEq (getD s p 0) 0x81 someInvokeProblem noProblem) noProblem)
+
+-- what a faulty reject does where both can be read, and where not
+abbrev pub ifRead : {A : Type 0} → ℕ → A → A → A
+ifRead p c f = ifEq p noProblem f c
 
 unfoldable pub rejectPieces : List ℕ → ℕ → ℕ → ℕ → ℕ → Component
 rejectPieces s id x e p =
-    ifEq (problemAt s e p) noProblem (faulty rejectTag id (ifEq id noID noProblem (invokeProblem s e p)) 1 x)
-    (sound rejectTag id noID (problemAt s e p) x 0 0)
+    ifEq (problemAt s e p) noProblem (faulty rejectTag id (tag81 s id e p) mistyped x) (sound rejectTag id noID (problemAt s e p) x 0 0)
 
 -- a reject without an ID: 05 00 first
 unfoldable pub nullPieces : List ℕ → ℕ → ℕ → ℕ → Component
 nullPieces s x e b =
-    ifLt e (b + 2) (faulty rejectTag noID noProblem 1 x)
-    (ifEq (getD s b 0) 5 (ifEq (getD s (b + 1) 0) 0 (rejectPieces s noID x e (b + 2)) (faulty rejectTag noID noProblem 1 x))
-    (faulty rejectTag noID noProblem 1 x))
+    ifLt e (b + 2) (faulty rejectTag noID noProblem mistyped x)
+    (ifEq (getD s b 0) 5 (ifEq (getD s (b + 1) 0) 0 (rejectPieces s noID x e (b + 2)) (faulty rejectTag noID noProblem mistyped x))
+    (faulty rejectTag noID noProblem mistyped x))
 
 -- the pieces after an invoke ID, by the tag
 unfoldable pub piecesAfter : List ℕ → ℕ → ℕ → ℕ → ℕ → ℕ → Component
@@ -138,25 +157,25 @@ piecesAfter s t id x e p =
 
 unfoldable pub pieces : List ℕ → ℕ → ℕ → ℕ → ℕ → Component
 pieces s t x e b =
-    ifEq (single s 2 e b) noID (ifEq t rejectTag (nullPieces s x e b) (faulty t noID noProblem 1 x))
+    ifEq (single s 2 e b) noID (ifEq t rejectTag (nullPieces s x e b) (faulty t noID noProblem mistyped x))
     (piecesAfter s t (single s 2 e b) x e (b + 3))
-
--- what of a faulty reject's problem can be read: "only if ID and tag 81 can be read"
-unfoldable pub readProblem : List ℕ → ℕ → ℕ → ℕ → ℕ
-readProblem s t e b = ifEq t rejectTag (ifEq (single s 2 e b) noID noProblem (invokeProblem s e (b + 3))) noProblem
 
 -- go on with a component that is well formed
 abbrev pub ifNested : Reading → Component → Component → Component
 ifNested (Ends e) c f = c
 ifNested (Fault e) c f = f
 
+-- the problem of one with bad nesting, whose contents stand from b to e: that of a faulty reject; no other has one
+unfoldable pub readProblem : List ℕ → ℕ → ℕ → ℕ → ℕ
+readProblem s t e b = ifEq t rejectTag (tag81 s (single s 2 e b) e (b + 3)) noProblem
+
 -- one that has a frame: "unknown tag 0; bad nesting 2; wrong, missing or extra piece 1. The ID is used if the first piece is 02 01"
 unfoldable pub framed : List ℕ → ℕ → ℕ → ℕ → Frame → Component
 framed s lim at t f =
     ifB (knownTag t)
     (ifNested (element s depths lim at) (pieces s t (f .stop) (f .to) (f .from))
-    (faulty t (single s 2 (f .to) (f .from)) (readProblem s t (f .to) (f .from)) 2 (f .stop)))
-    (faulty t (single s 2 (f .to) (f .from)) noProblem 0 (f .stop))
+    (faulty t (single s 2 (f .to) (f .from)) (readProblem s t (f .to) (f .from)) badlyStructured (f .stop)))
+    (faulty t (single s 2 (f .to) (f .from)) noProblem unrecognized (f .stop))
 
 -- the first octet of a component, 0 where there is none
 unfoldable pub tagAt : List ℕ → ℕ → ℕ → ℕ
@@ -165,7 +184,7 @@ tagAt s lim at = ifLt at lim (getD s at 0) 0
 -- THE COMPONENT at a position of a 6C that ends at lim: "no frame .. or an empty 6C, general 2 with 05 00", else by its pieces
 unfoldable pub componentAt : List ℕ → ℕ → ℕ → Component
 componentAt s lim at =
-    ifEq (frameAt s depths lim at .stop) 0 (faulty (tagAt s lim at) noID noProblem 2 0)
+    ifEq (frameAt s depths lim at .stop) 0 (faulty (tagAt s lim at) noID noProblem badlyStructured 0)
     (framed s lim at (tagAt s lim at) (frameAt s depths lim at))
 
 -- a component and where it starts
@@ -193,3 +212,7 @@ items s lim (suc n) at =
 -- THE COMPONENTS of a 6C whose contents stand from `from` to lim; of an empty one, a fault
 unfoldable pub components : List ℕ → ℕ → ℕ → List Item
 components s lim from = items s lim (lim - from + 1) from
+
+-- those in octets that wait to be sent: no 6C is around them yet, and of no octets there are none
+unfoldable pub waitingItems : List ℕ → List Item
+waitingItems w = ifEq (length w) 0 [] (components w (length w) 0)

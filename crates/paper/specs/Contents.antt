@@ -6,7 +6,7 @@ use Rattle.laws.specs.If.{ifEq, ifB}
 use Rattle.laws.specs.Lists.{every}
 use Rattle.paper.specs.declared.Frame.{Frame}
 use Rattle.paper.specs.declared.Message.{Message}
-use Rattle.paper.specs.Sizes.{depths}
+use Rattle.paper.specs.Sizes.{depths, depthsFrom}
 use Rattle.paper.specs.Elements.{frameAt}
 use Rattle.paper.specs.Components.{Item, codeEnd, invokeTag, errorTag, rejectTag, noID}
 use Rattle.paper.specs.Messages.{messageOf, isSound}
@@ -24,7 +24,7 @@ abbrev pub frameOf : List ℕ → Item → Frame
 frameOf s i = frameAt s depths (i .part .stop) (i .start)
 
 abbrev pub resultFrame : List ℕ → Item → Frame
-resultFrame s i = frameAt s 15 (frameOf s i .to) (frameOf s i .from + 3)
+resultFrame s i = frameAt s (depthsFrom 2) (frameOf s i .to) (frameOf s i .from + 3)
 
 -- the operation or error at p inside e; the parameter
 abbrev pub codeAt : List ℕ → ℕ → ℕ → List ℕ

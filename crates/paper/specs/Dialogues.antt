@@ -13,7 +13,7 @@ use Rattle.paper.specs.declared.Row.{Row}
 use Rattle.paper.specs.Sizes.{mostInvocations, mostWaiting, mostRejects, depths, depthsFrom, nextTurn, idOctets}
 use Rattle.paper.specs.Elements.{isElement}
 use Rattle.paper.specs.Problems.{senderOfProblem, byUser, kindOf, noProblem}
-use Rattle.paper.specs.Components.{Item, components, codeEnd, invokeTag, noFault}
+use Rattle.paper.specs.Components.{Item, waitingItems, codeEnd, invokeTag, noFault}
 use Rattle.paper.specs.Messages.{noRun}
 use Rattle.paper.specs.Writing.{invokeOctets, resultOctets, errorOctets, rejectOctets, beginOctets, continueOctets, endOctets, uniOctets, userAbortOctets}
 use Rattle.paper.specs.Portions.{Form, aarq, aare, abrt, audt, portionBy}
@@ -36,6 +36,10 @@ dialogueReceived = 3
 
 abbrev pub dialogueActive : ℕ
 dialogueActive = 4
+
+-- "Received or Active": where the peer's ID is known
+unfoldable pub hasPeer : ℕ → Bool
+hasPeer state = ifEq state dialogueReceived true (eqb state dialogueActive)
 
 -- a place: its control record and its waiting octets
 pub record Place : Type 0 where
@@ -244,7 +248,7 @@ unfoldable pub needsOpen : Place → ℕ
 needsOpen x = ifEq (x .control .state) dialogueOpen 0 6
 
 unfoldable pub needsPeer : Place → ℕ
-needsPeer x = ifEq (x .control .state) dialogueReceived 0 (ifEq (x .control .state) dialogueActive 0 6)
+needsPeer x = ifB (hasPeer (x .control .state)) 0 6
 
 unfoldable pub needsSent : Place → ℕ
 needsSent x = ifEq (x .control .state) dialogueSent 0 6
@@ -259,7 +263,7 @@ ofClass4 c i =
 unfoldable pub uniRefusal : Place → ℕ
 uniRefusal x =
     ifEq (x .control .state) dialogueOpen
-    (ifB (every (ofClass4 (x .control)) (components (x .waiting) (length (x .waiting)) 0)) 0 6)
+    (ifEq (length (x .waiting)) 0 6 (ifB (every (ofClass4 (x .control)) (waitingItems (x .waiting))) 0 6))
     6
 
 -- "Prearranged end and user abort (both free): any; only abort takes a dialogue portion, .. and writes a message only in
@@ -274,7 +278,7 @@ unfoldable pub abortRefusal : List ℕ → ℕ
 abortRefusal given = ifB (isAbort given) (ifLt mostWaiting (length (abortPortion given)) 12 0) 11
 
 unfoldable pub abortMessage : Place → List ℕ → List ℕ
-abortMessage x given = ifEq (needsPeer x) 0 (userAbortOctets (peerOf (x .control)) (abortPortion given)) []
+abortMessage x given = ifB (hasPeer (x .control .state)) (userAbortOctets (peerOf (x .control)) (abortPortion given)) []
 
 -- THE REQUESTS AND TIMER EVENTS on a dialogue; IDs are octets, a linked ID is 256 where there is none, tag is A2 or A7; sendings
 -- take a context name and user information, an abort a dialogue portion or user information, no octets for none

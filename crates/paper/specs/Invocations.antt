@@ -13,7 +13,7 @@ use Rattle.paper.specs.declared.Control.{Control}
 use Rattle.paper.specs.declared.Acted.{Acted}
 use Rattle.paper.specs.Problems.{senderOfProblem, byUser, problem, general, kindOf, noProblem}
 use Rattle.paper.specs.Kinds.{rowInvoke, rowLast, rowNotLast, rowError, rowUserReject, rowRemoteReject, rowRejected, rowNotStored}
-use Rattle.paper.specs.Components.{invokeTag, lastTag, errorTag, rejectTag, notLastTag, noID, noFault}
+use Rattle.paper.specs.Components.{invokeTag, lastTag, errorTag, rejectTag, notLastTag, noID, noFault, ifRead}
 
 -- "Idle, Pending (passed), Sent (transmitted), Wait (may be rejected), Rejecting"
 abbrev pub idle : ℕ
@@ -168,7 +168,7 @@ rejects c id p = ifLt (kindOf p) 2 (acted (released c id) (rejectKind p) p) (act
 
 -- "a faulty A4 is a local notice, never stored, and returns one to Idle only if ID and tag 81 can be read"; the row has our general code
 unfoldable pub faultyReject : Control → ℕ → ℕ → ℕ → Acted
-faultyReject c id p code = ifEq p noProblem (acted c rowNotStored (general code)) (acted (released c id) rowNotStored (general code))
+faultyReject c id p code = ifRead p (acted (released c id) rowNotStored (general code)) (acted c rowNotStored (general code))
 
 unfoldable pub isAnswer : ℕ → Bool
 isAnswer tag = ifEq tag lastTag true (ifEq tag errorTag true (eqb tag notLastTag))

@@ -19,12 +19,11 @@ use Rattle.paper.specs.Writing.{Written, joined}
 use Rattle.paper.specs.Portions.{Form, aarq, aare, abrt, audt, portionBy, Spoken, spokenIn, spokenBy}
 use Rattle.paper.specs.Kinds.{rowBegin, rowContinue, rowRejected}
 use Rattle.paper.specs.Shares.{shared, gives}
-use Rattle.paper.specs.Dialogues.{Request, abortPortion, dialogueOpen, dialogueSent, dialogueReceived, dialogueActive}
+use Rattle.paper.specs.Dialogues.{Request, abortPortion, dialogueOpen, dialogueSent, dialogueReceived, dialogueActive, hasPeer}
 use Rattle.paper.specs.Dialogues.Request.{Invoke, Result, Error, UserReject, Cancel, Begin, Continue, End, Prearranged, Abort, Unidirectional, Timeout, RejectTimeout, NoReaction}
 use Rattle.paper.specs.Calls.{Call, octetsAt, destinationNumber, itemsOf}
 use Rattle.paper.specs.Calls.Call.{Open, OnDialogue, Receive}
 use Rattle.paper.specs.Counting.{Notice, isEnded}
-use Rattle.paper.specs.Rules.{hasPeer}
 use Rattle.paper.specs.Invocations.{noInvocation}
 use Rattle.paper.specs.Contents.{Wire}
 use Rattle.paper.specs.Asked.{becomes, newOne, userRejects, allSent, heardAll}

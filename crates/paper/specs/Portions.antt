@@ -11,7 +11,7 @@ use Rattle.paper.specs.declared.Pdu.{Pdu}
 use Rattle.paper.specs.declared.Portion.{Portion}
 use Rattle.paper.specs.declared.Portion.the-variants.{Absent, Opaque, Aarq, Aare, Abrt, Audt}
 use Rattle.paper.specs.declared.Row.{Row}
-use Rattle.paper.specs.Sizes.{depths}
+use Rattle.paper.specs.Sizes.{depths, depthsFrom}
 use Rattle.paper.specs.Elements.{isElement, frameAt, noFrame}
 use Rattle.paper.specs.Problems.{noProblem}
 use Rattle.paper.specs.Components.{noID, single, codeEnd, tagAt}
@@ -160,20 +160,20 @@ resultIn l w f = ifEq (valueIn l 1 f) noID (goesTo w 0) (withResult w (valueIn l
 -- the A3 holds A1 (user) or A2 (provider)
 unfoldable pub diagnosticIn : List ℕ → Pdu → Frame → Pdu
 diagnosticIn l w f =
-    ifEq (valueIn l 2 (only l 11 0xA1 (f .to) (f .from))) noID
-    (ifEq (valueIn l 2 (only l 11 0xA2 (f .to) (f .from))) noID (goesTo w 0) (withDiagnostic w (512 + valueIn l 2 (only l 11 0xA2 (f .to) (f .from))) (f .stop)))
-    (withDiagnostic w (256 + valueIn l 2 (only l 11 0xA1 (f .to) (f .from))) (f .stop))
+    ifEq (valueIn l 2 (only l (depthsFrom 6) 0xA1 (f .to) (f .from))) noID
+    (ifEq (valueIn l 2 (only l (depthsFrom 6) 0xA2 (f .to) (f .from))) noID (goesTo w 0) (withDiagnostic w (512 + valueIn l 2 (only l (depthsFrom 6) 0xA2 (f .to) (f .from))) (f .stop)))
+    (withDiagnostic w (256 + valueIn l 2 (only l (depthsFrom 6) 0xA1 (f .to) (f .from))) (f .stop))
 
 -- a piece where the last one ended: "a protocol version before the name .. is stepped over"; user information may be absent
 unfoldable pub piece : List ℕ → ℕ → Pdu → Piece → Pdu
-piece l e w Piece.Version = ifEq (tagAt l e (w .at)) 0x80 (goesTo w (frameAt l 12 e (w .at) .stop)) w
-piece l e w Piece.Name = nameIn l w (tagged l 12 0xA1 e (w .at))
-piece l e w Piece.Result = resultIn l w (tagged l 12 0xA2 e (w .at))
-piece l e w Piece.Diagnostic = diagnosticIn l w (tagged l 12 0xA3 e (w .at))
+piece l e w Piece.Version = ifEq (tagAt l e (w .at)) 0x80 (goesTo w (frameAt l (depthsFrom 5) e (w .at) .stop)) w
+piece l e w Piece.Name = nameIn l w (tagged l (depthsFrom 5) 0xA1 e (w .at))
+piece l e w Piece.Result = resultIn l w (tagged l (depthsFrom 5) 0xA2 e (w .at))
+piece l e w Piece.Diagnostic = diagnosticIn l w (tagged l (depthsFrom 5) 0xA3 e (w .at))
 piece l e w Piece.Source = ifLt 1 (single l 0x80 e (w .at)) (goesTo w 0) (withSource w (single l 0x80 e (w .at)) (w .at + 3))
 piece l e w Piece.Information =
     ifEq (tagAt l e (w .at)) 0xBE
-    (withInformation w (record { start = w .at; length = frameAt l 12 e (w .at) .stop - w .at }) (frameAt l 12 e (w .at) .stop))
+    (withInformation w (record { start = w .at; length = frameAt l (depthsFrom 5) e (w .at) .stop - w .at }) (frameAt l (depthsFrom 5) e (w .at) .stop))
     w
 
 unfoldable pub allPieces : List ℕ → ℕ → Pdu → List Piece → Pdu
@@ -182,13 +182,13 @@ allPieces l e w (k ∷ ks) = allPieces l e (piece l e w k) ks
 
 -- what the 6B holds: the 28 alone, in it the object identifier and the A0 and nothing else, in the A0 the PDU and nothing else
 unfoldable pub external : List ℕ → Frame
-external l = only l 15 0x28 (frameAt l depths (length l) 0 .to) (frameAt l depths (length l) 0 .from)
+external l = only l (depthsFrom 2) 0x28 (frameAt l depths (length l) 0 .to) (frameAt l depths (length l) 0 .from)
 
 unfoldable pub pduOf : Form → List ℕ → Frame → Frame
 pduOf f l x =
     ifB (standsAt l (x .to) (x .from) (tlv 6 (f .identifier)))
-    (only l 13 (f .tag) (only l 14 0xA0 (x .to) (x .from + length (tlv 6 (f .identifier))) .to)
-    (only l 14 0xA0 (x .to) (x .from + length (tlv 6 (f .identifier))) .from))
+    (only l (depthsFrom 4) (f .tag) (only l (depthsFrom 3) 0xA0 (x .to) (x .from + length (tlv 6 (f .identifier))) .to)
+    (only l (depthsFrom 3) 0xA0 (x .to) (x .from + length (tlv 6 (f .identifier))) .from))
     noFrame
 
 -- a PDU of a form: its pieces, and nothing after them

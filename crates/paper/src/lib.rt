@@ -145,7 +145,18 @@ pub const LEAST_SPACE: usize = 272;
 
 pub const LEAST_ROWS: usize = 4096;
 
-pub const DEPTHS: u8 = 16;
+pub const DEPTHS: usize = 16;
+
+// those from depth 2 on: a parameter is at 2, at 3 in a result's 30; a dialogue portion's 28 is at 2, A0 at 3, PDU at 4, its pieces at 5
+pub const DEPTHS_FROM_2: usize = DEPTHS - 1;
+
+pub const DEPTHS_FROM_3: usize = DEPTHS - 2;
+
+pub const DEPTHS_FROM_4: usize = DEPTHS - 3;
+
+pub const DEPTHS_FROM_5: usize = DEPTHS - 4;
+
+pub const DEPTHS_FROM_6: usize = DEPTHS - 5;
 
 pub const TURNS: u32 = 16777216;
 
@@ -258,3 +269,35 @@ pub const AARE: u8 = 3;
 pub const ABRT: u8 = 4;
 
 pub const AUDT: u8 = 5;
+
+// ---- TAGS. specs/Messages: a message's type
+pub const UNI_TAG: u8 = 0x61;
+
+pub const BEGIN_TAG: u8 = 0x62;
+
+pub const END_TAG: u8 = 0x64;
+
+pub const CONTINUE_TAG: u8 = 0x65;
+
+pub const ABORT_TAG: u8 = 0x67;
+
+// specs/Components: a component's
+pub const INVOKE_TAG: u8 = 0xA1;
+
+pub const LAST_TAG: u8 = 0xA2;
+
+pub const ERROR_TAG: u8 = 0xA3;
+
+pub const REJECT_TAG: u8 = 0xA4;
+
+pub const NOT_LAST_TAG: u8 = 0xA7;
+
+// a component's fault, the code of a general problem; NO_FAULT beside them
+pub const UNRECOGNIZED: u8 = 0;
+
+pub const MISTYPED: u8 = 1;
+
+pub const BADLY_STRUCTURED: u8 = 2;
+
+// the problem of a faulty reject whose ID and tag 81 could be read
+pub const SOME_INVOKE_PROBLEM: u32 = 256;

@@ -6,29 +6,29 @@ use Prim.Native.Nat.{ℕ, _+_, _-_, _<_, _≤_}
 use native.Mathlib.Omega.{arith}
 use lib.ListN.{getD}
 use borrow.Author.Tests.{eqb-true}
-use Rattle.laws.specs.If.{ifEq, by-lt, by-eq, by-b}
+use Rattle.laws.specs.If.{by-lt, by-eq, by-b}
 use Rattle.paper.specs.declared.Length.{Length}
 use Rattle.paper.specs.declared.Length.the-variants.{Wrong, Given, Until}
 use Rattle.paper.specs.declared.Reading.{Reading}
 use Rattle.paper.specs.declared.Reading.the-variants.{Ends, Fault}
 use Rattle.paper.specs.declared.Frame.{Frame}
 use Rattle.paper.specs.declared.Component.{Component}
-use Rattle.paper.specs.Sizes.{depths}
+use Rattle.paper.specs.Sizes.{depths, depthsFrom}
 use Rattle.paper.specs.Elements.{lengthAt, element, frameAt}
 use Rattle.paper.specs.Problems.{problem, noProblem}
-use Rattle.paper.specs.Components.{noID, sound, faulty, single, someEnd, codeEnd, oneElement, lastPiece, invokePieces, resultBoth, resultPieces, problemAt, invokeProblem, rejectPieces, nullPieces, piecesAfter, pieces, readProblem, ifNested, framed, tagAt, componentAt}
+use Rattle.paper.specs.Components.{noID, noFault, rejectTag, mistyped, badlyStructured, unrecognized, sound, faulty, single, someEnd, codeEnd, frameEnds, lastPiece, invokePieces, resultBoth, resultPieces, problemAt, tag81, rejectPieces, nullPieces, piecesAfter, pieces, readProblem, ifNested, framed, tagAt, componentAt}
 use Rattle.reading_elements.specs.Bounds.{LengthIn, FrameIn, length-in, frame-in}
 
 -- it ends by lim, and a sound one not before `least`; its parameter lies inside it
 pub record ComponentIn (least lim : ℕ) (c : Component) : Type 0 where
   pub ends : c .stop ≤ lim
-  pub long : c .fault ≡ 3 → least ≤ c .stop
+  pub long : c .fault ≡ noFault → least ≤ c .stop
   pub order : c .par ≤ c .parstop
   pub inside : c .parstop ≤ c .stop
-  pub code : c .fault ≤ 3
+  pub code : c .fault ≤ noFault
   pub invoke : c .id ≤ 256
   pub link : c .linked ≤ 256
-  pub told : c .problem ≤ 65535
+  pub told : c .problem ≤ noProblem
 
 -- an ID lies inside, and is an octet or 256
 pub single-in : (s : List ℕ) (tag e p r : ℕ) → r ≡ single s tag e p → (r ≡ noID → ⊥) → p + 3 ≤ e
@@ -56,7 +56,7 @@ code-in s e p r q h =
     ends q = let w = some-in e (p + 1) e (lengthAt s e (p + 1)) r (length-in s e (p + 1) (lengthAt s e (p + 1)) refl) q h in omega arith
 
 -- one element up to e begins before it
-one-in : (s : List ℕ) (d e p : ℕ) → 0 < e → oneElement s d e p ≡ true → p < e
+one-in : (s : List ℕ) (d e p : ℕ) → 0 < e → frameEnds s d e p ≡ true → p < e
 one-in s d e p h q =
     let z = eqb-true (frameAt s d e p .stop) e q in
     let w = frame-in s d e p (frameAt s d e p) refl in
@@ -64,7 +64,7 @@ one-in s d e p h q =
 
 module _ (least lim x : ℕ) (ends : x ≤ lim) where
   -- the leaves
-  bad-in : (t id p code : ℕ) (r : Component) → id ≤ 256 → p ≤ 65535 → code < 3 → r ≡ faulty t id p code x → ComponentIn least lim r
+  bad-in : (t id p code : ℕ) (r : Component) → id ≤ 256 → p ≤ noProblem → code < noFault → r ≡ faulty t id p code x → ComponentIn least lim r
   bad-in t id p code r i j k q = subst (ComponentIn least lim) (sym q) (record {
     ends = ends;
     long = λ h. absurd (omega arith);
@@ -76,7 +76,7 @@ module _ (least lim x : ℕ) (ends : x ≤ lim) where
     told = j;
   })
 
-  good-in : (t id l p a b : ℕ) (r : Component) → id ≤ 256 → l ≤ 256 → p ≤ 65535 → a ≤ b → b ≤ x → least ≤ x → r ≡ sound t id l p x a b → ComponentIn least lim r
+  good-in : (t id l p a b : ℕ) (r : Component) → id ≤ 256 → l ≤ 256 → p ≤ noProblem → a ≤ b → b ≤ x → least ≤ x → r ≡ sound t id l p x a b → ComponentIn least lim r
   good-in t id l p a b r i j k h g m q = subst (ComponentIn least lim) (sym q) (record {
     ends = ends;
     long = λ h. m;
@@ -101,7 +101,7 @@ module _ (least lim x : ℕ) (ends : x ≤ lim) where
         by-eq _ _ _ _ z (λ a z. bad-in t id noProblem 1 r i (omega arith) (omega arith) z)
         (λ a z. by-eq _ _ _ _ z (λ b z. good-in t id l noProblem 0 0 r i j (omega arith) (omega arith) (omega arith) m z)
         (λ b z. by-b _ _ _ z
-        (λ o z. let w = one-in s 15 e q some o in good-in t id l noProblem q e r i j (omega arith) (omega arith) within m z)
+        (λ o z. let w = one-in s (depthsFrom 2) e q some o in good-in t id l noProblem q e r i j (omega arith) (omega arith) within m z)
         (λ o z. bad-in t id noProblem 1 r i (omega arith) (omega arith) z)))
 
     invoke-in : (id p : ℕ) (r : Component) → id ≤ 256 → least ≤ x → 0 < e → r ≡ invokePieces s id x e p → ComponentIn least lim r
@@ -117,10 +117,10 @@ module _ (least lim x : ℕ) (ends : x ≤ lim) where
         (λ a z.
         let v = code-in s e p (codeEnd s e p) refl (omega arith) in
         by-b _ _ _ z
-        (λ o z. let w = one-in s 14 e (codeEnd s e p) (omega arith) o in good-in t id noID noProblem (codeEnd s e p) e r i (omega arith) (omega arith) (omega arith) within m z)
+        (λ o z. let w = one-in s (depthsFrom 3) e (codeEnd s e p) (omega arith) o in good-in t id noID noProblem (codeEnd s e p) e r i (omega arith) (omega arith) (omega arith) within m z)
         (λ o z. bad-in t id noProblem 1 r i (omega arith) (omega arith) z))
 
-    problem-in : (p r : ℕ) → r ≡ problemAt s e p → (r ≤ 65535) × ((r ≡ noProblem → ⊥) → p + 3 ≤ e)
+    problem-in : (p r : ℕ) → r ≡ problemAt s e p → (r ≤ noProblem) × ((r ≡ noProblem → ⊥) → p + 3 ≤ e)
     unfolding problemAt
     problem-in p r z =
         by-eq _ _ _ _ z
@@ -129,25 +129,23 @@ module _ (least lim x : ℕ) (ends : x ≤ lim) where
         (λ c z. (omega arith, λ h. omega arith))))
         (λ a z. (omega arith, λ h. absurd (h z)))
 
-    tag-read-in : (p r : ℕ) → r ≡ invokeProblem s e p → r ≤ 65535
-    unfolding invokeProblem
-    tag-read-in p r z = by-lt _ _ _ _ z (λ a z. by-eq _ _ _ _ z (λ b z. omega arith) (λ b z. omega arith)) (λ a z. omega arith)
+    tag-in : (id p r : ℕ) → r ≡ tag81 s id e p → r ≤ noProblem
+    unfolding tag81
+    tag-in id p r z =
+        by-eq _ _ _ _ z (λ a z. omega arith)
+        (λ a z. by-lt _ _ _ _ z (λ b z. by-eq _ _ _ _ z (λ c z. omega arith) (λ c z. omega arith)) (λ b z. omega arith))
 
-    read-in : (t b r : ℕ) → r ≡ readProblem s t e b → r ≤ 65535
+    read-in : (t b r : ℕ) → r ≡ readProblem s t e b → r ≤ noProblem
     unfolding readProblem
-    read-in t b r z =
-        by-eq _ _ _ _ z (λ a z. by-eq _ _ _ _ z (λ c z. omega arith) (λ c z. tag-read-in (b + 3) r z)) (λ a z. omega arith)
+    read-in t b r z = by-eq _ _ _ _ z (λ a z. tag-in (single s 2 e b) (b + 3) r z) (λ a z. omega arith)
 
     reject-in : (id p : ℕ) (r : Component) → id ≤ 256 → least ≤ p + 3 → r ≡ rejectPieces s id x e p → ComponentIn least lim r
     unfolding rejectPieces
     reject-in id p r i m z =
         let w = problem-in p (problemAt s e p) refl in
         by-eq _ _ _ _ z
-        (λ a z. bad-in 0xA4 id (ifEq id noID noProblem (invokeProblem s e p)) 1 r i (tag (ifEq id noID noProblem (invokeProblem s e p)) refl) (omega arith) z)
-        (λ a z. let v = w .1 a in good-in 0xA4 id noID (problemAt s e p) 0 0 r i (omega arith) (w .0) (omega arith) (omega arith) (omega arith) z)
-      where
-        tag : (n : ℕ) → n ≡ ifEq id noID noProblem (invokeProblem s e p) → n ≤ 65535
-        tag n z = by-eq _ _ _ _ z (λ a z. omega arith) (λ a z. tag-read-in p n z)
+        (λ a z. bad-in rejectTag id (tag81 s id e p) mistyped r i (tag-in id p (tag81 s id e p) refl) (omega arith) z)
+        (λ a z. let v = w .1 a in good-in rejectTag id noID (problemAt s e p) 0 0 r i (omega arith) (w .0) (omega arith) (omega arith) (omega arith) z)
 
     null-in : (b : ℕ) (r : Component) → least ≤ b + 5 → r ≡ nullPieces s x e b → ComponentIn least lim r
     unfolding nullPieces
@@ -167,8 +165,8 @@ result-in least lim x ends s octets e within t id p r i m z =
     (λ a z. by-eq _ _ _ _ z
     (λ b z. by-b _ _ _ z
     (λ o z.
-    let w = frame-in s 15 e p (frameAt s 15 e p) refl in
-    both-in least lim x ends s octets (frameAt s 15 e p .to) (omega arith) t id (frameAt s 15 e p .from) r i m z)
+    let w = frame-in s (depthsFrom 2) e p (frameAt s (depthsFrom 2) e p) refl in
+    both-in least lim x ends s octets (frameAt s (depthsFrom 2) e p .to) (omega arith) t id (frameAt s (depthsFrom 2) e p .from) r i m z)
     (λ o z. bad z))
     (λ b z. bad z))
   where
@@ -216,18 +214,18 @@ component-in s octets lim at r z =
     (λ k z. bad-in (at + 5) lim (f .stop) (w .ends) (tagAt s lim at) (single s 2 (f .to) (f .from)) noProblem 0 r id (omega arith) (omega arith) z))
   where
     f : Frame
-    f = frameAt s 16 lim at
+    f = frameAt s depths lim at
 
     w : FrameIn at lim f
-    w = frame-in s 16 lim at f refl
+    w = frame-in s depths lim at f refl
 
     id : single s 2 (f .to) (f .from) ≤ 256
     id = id-in (at + 5) lim (f .stop) (w .ends) s octets (f .to) (w .inside) 2 (f .from) (single s 2 (f .to) (f .from)) refl
 
     go : (f .stop ≡ 0 → ⊥) → (x : Reading) → r ≡ ifNested x (pieces s (tagAt s lim at) (f .stop) (f .to) (f .from))
-        (faulty (tagAt s lim at) (single s 2 (f .to) (f .from)) (readProblem s (tagAt s lim at) (f .to) (f .from)) 2 (f .stop)) → ComponentIn (at + 5) lim r
+        (faulty (tagAt s lim at) (single s 2 (f .to) (f .from)) (readProblem s (tagAt s lim at) (f .to) (f .from)) badlyStructured (f .stop)) → ComponentIn (at + 5) lim r
     go some (Fault y) z =
-        bad-in (at + 5) lim (f .stop) (w .ends) (tagAt s lim at) (single s 2 (f .to) (f .from)) (readProblem s (tagAt s lim at) (f .to) (f .from)) 2 r id
-        (read-in (at + 5) lim (f .stop) (w .ends) s octets (f .to) (w .inside) (tagAt s lim at) (f .from) (readProblem s (tagAt s lim at) (f .to) (f .from)) refl) (omega arith) z
+        bad-in (at + 5) lim (f .stop) (w .ends) (tagAt s lim at) (single s 2 (f .to) (f .from)) _ badlyStructured r id
+        (read-in (at + 5) lim (f .stop) (w .ends) s octets (f .to) (w .inside) (tagAt s lim at) (f .from) _ refl) (omega arith) z
     go some (Ends y) z =
         longer (at + 5) (f .from + 3) lim r (omega (arith, w .past (omega arith))) (pieces-in lim (f .stop) (w .ends) s octets (f .to) (w .inside) (f .from) (tagAt s lim at) r z)

@@ -12,9 +12,10 @@ use Rattle.paper.specs.declared.Reading.{Reading}
 use Rattle.paper.specs.declared.Reading.the-variants.{Ends, Fault}
 use Rattle.paper.specs.declared.Frame.{Frame}
 use Rattle.paper.specs.declared.Component.{Component}
+use Rattle.paper.specs.Sizes.{depths, depthsFrom}
 use Rattle.paper.specs.Elements.{element, frameAt}
 use Rattle.paper.specs.Problems.{senderOf, problem, noProblem}
-use Rattle.paper.specs.Components.{noID, rejectTag, faulty, single, codeEnd, resultBoth, resultPieces, problemAt, invokeProblem, rejectPieces, knownTag, pieces, readProblem, ifNested, framed, tagAt, componentAt}
+use Rattle.paper.specs.Components.{noID, rejectTag, mistyped, badlyStructured, faulty, single, codeEnd, resultBoth, resultPieces, problemAt, tag81, rejectPieces, knownTag, pieces, readProblem, ifNested, framed, tagAt, componentAt}
 use Rattle.reading_elements.specs.Bounds.{nested}
 use Rattle.reading_components.specs.Bounds.{ComponentIn, component-in}
 
@@ -29,51 +30,61 @@ problem-by s e p t code sender r three is high one then by q =
     ∙ ap (λ (n : ℕ). ifEq (senderOf (getD s p 0 - 128) n) 2 noProblem ((getD s p 0 - 128) * 256 + n)) then)))
 
 -- a faulty reject, with what of its problem could be read
-pub reject-faulty : (s : List ℕ) (id x e p n : ℕ) (r : Component) → problemAt s e p ≡ noProblem → n ≡ ifEq id noID noProblem (invokeProblem s e p)
-    → r ≡ faulty rejectTag id n 1 x → r ≡ rejectPieces s id x e p
+pub reject-faulty : (s : List ℕ) (id x e p n : ℕ) (r : Component) → problemAt s e p ≡ noProblem → n ≡ tag81 s id e p
+    → r ≡ faulty rejectTag id n mistyped x → r ≡ rejectPieces s id x e p
 unfolding rejectPieces
-reject-faulty s id x e p n r none read q = eq _ _ _ _ none (q ∙ ap (λ (n : ℕ). faulty rejectTag id n 1 x) read)
+reject-faulty s id x e p n r none read q = eq _ _ _ _ none (q ∙ ap (λ (n : ℕ). faulty rejectTag id n mistyped x) read)
+
+-- one with bad nesting, with what of a reject's problem could be read
+pub misnested-by : (s : List ℕ) (t id n e b x : ℕ) (r : Component) → id ≡ single s 2 e b → n ≡ ifEq t rejectTag (tag81 s id e (b + 3)) noProblem
+    → r ≡ faulty t id n badlyStructured x → r ≡ faulty t (single s 2 e b) (readProblem s t e b) badlyStructured x
+unfolding readProblem
+misnested-by s t id n e b x r is read q =
+    q ∙ ap (λ (n : ℕ). faulty t id n badlyStructured x) read
+    ∙ ap (λ (i : ℕ). faulty t i (ifEq t rejectTag (tag81 s i e (b + 3)) noProblem) badlyStructured x) is
 
 -- a result's 30, by its frame
-module _ (s : List ℕ) (t id x e p : ℕ) (f : Frame) (r : Component) (some : p ≡ e → ⊥) (is : getD s p 0 ≡ 0x30) (frame : f ≡ frameAt s 15 e p) where
+module _ (s : List ℕ) (t id x e p : ℕ) (f : Frame) (r : Component) (some : p ≡ e → ⊥) (is : getD s p 0 ≡ 0x30) (frame : f ≡ frameAt s (depthsFrom 2) e p) where
   pub result-framed : (q : ℕ) → f .stop ≡ e → q ≡ codeEnd s (f .to) (f .from) → r ≡ resultBoth s t id x (f .to) q → r ≡ resultPieces s t id x e p
   unfolding resultPieces
   result-framed q ends code is-both =
       ne _ _ _ _ some (eq _ _ _ _ is (yes _ _ _ (ap (λ (f : Frame). eqb (f .stop) e) (sym frame) ∙ eq-eqb (f .stop) e ends)
       (is-both ∙ ap (resultBoth s t id x (f .to)) code ∙ ap (λ (f : Frame). resultBoth s t id x (f .to) (codeEnd s (f .to) (f .from))) frame)))
 
-  pub result-long : (f .stop ≡ e → ⊥) → r ≡ faulty t id noProblem 1 x → r ≡ resultPieces s t id x e p
+  pub result-long : (f .stop ≡ e → ⊥) → r ≡ faulty t id noProblem mistyped x → r ≡ resultPieces s t id x e p
   unfolding resultPieces
   result-long ends q =
       ne _ _ _ _ some (eq _ _ _ _ is (no _ _ _ (ap (λ (f : Frame). eqb (f .stop) e) (sym frame) ∙ ne-eqb (f .stop) e ends) q))
 
 -- one that has a frame: well formed, or not
+abbrev bad-nesting : List ℕ → ℕ → Frame → Component
+bad-nesting s t f = faulty t (single s 2 (f .to) (f .from)) (readProblem s t (f .to) (f .from)) badlyStructured (f .stop)
+
 module _ (s : List ℕ) (lim at t : ℕ) (f : Frame) (r : Component) (known : knownTag t ≡ true) where
-  pub framed-nested : nested (element s 16 lim at) ≡ true → r ≡ pieces s t (f .stop) (f .to) (f .from) → r ≡ framed s lim at t f
+  pub framed-nested : nested (element s depths lim at) ≡ true → r ≡ pieces s t (f .stop) (f .to) (f .from) → r ≡ framed s lim at t f
   unfolding framed
-  framed-nested n q = yes _ _ _ known (go (element s 16 lim at) n)
+  framed-nested n q = yes _ _ _ known (go (element s depths lim at) n)
     where
-      go : (x : Reading) → nested x ≡ true → r ≡ ifNested x (pieces s t (f .stop) (f .to) (f .from)) (faulty t (single s 2 (f .to) (f .from)) (readProblem s t (f .to) (f .from)) 2 (f .stop))
+      go : (x : Reading) → nested x ≡ true → r ≡ ifNested x (pieces s t (f .stop) (f .to) (f .from)) (bad-nesting s t f)
       go (Ends e) n = q
       go (Fault e) n = absurd (true-false (sym n))
 
-  pub framed-bad : (id n : ℕ) → nested (element s 16 lim at) ≡ false → id ≡ single s 2 (f .to) (f .from) → n ≡ readProblem s t (f .to) (f .from)
-      → r ≡ faulty t id n 2 (f .stop) → r ≡ framed s lim at t f
+  pub framed-bad : nested (element s depths lim at) ≡ false → r ≡ bad-nesting s t f → r ≡ framed s lim at t f
   unfolding framed
-  framed-bad id n bad is read q = yes _ _ _ known (go (element s 16 lim at) bad)
+  framed-bad bad q = yes _ _ _ known (go (element s depths lim at) bad)
     where
-      go : (x : Reading) → nested x ≡ false → r ≡ ifNested x (pieces s t (f .stop) (f .to) (f .from)) (faulty t (single s 2 (f .to) (f .from)) (readProblem s t (f .to) (f .from)) 2 (f .stop))
+      go : (x : Reading) → nested x ≡ false → r ≡ ifNested x (pieces s t (f .stop) (f .to) (f .from)) (bad-nesting s t f)
       go (Ends e) n = absurd (true-false n)
-      go (Fault e) b = q ∙ ap (λ (i : ℕ). faulty t i n 2 (f .stop)) is ∙ ap (λ (m : ℕ). faulty t (single s 2 (f .to) (f .from)) m 2 (f .stop)) read
+      go (Fault e) b = q
 
 -- the component, by its frame, with where it lies
-module _ (s : List ℕ) (octets : (i : ℕ) → getD s i 0 < 256) (lim at t : ℕ) (f : Frame) (r : Component) (tag : t ≡ tagAt s lim at) (frame : f ≡ frameAt s 16 lim at) where
+module _ (s : List ℕ) (octets : (i : ℕ) → getD s i 0 < 256) (lim at t : ℕ) (f : Frame) (r : Component) (tag : t ≡ tagAt s lim at) (frame : f ≡ frameAt s depths lim at) where
   told : r ≡ componentAt s lim at → (r ≡ componentAt s lim at) × ComponentIn (at + 5) lim r
   told q = (q, component-in s octets lim at r q)
 
-  pub component-none : f .stop ≡ 0 → r ≡ faulty t noID noProblem 2 0 → (r ≡ componentAt s lim at) × ComponentIn (at + 5) lim r
+  pub component-none : f .stop ≡ 0 → r ≡ faulty t noID noProblem badlyStructured 0 → (r ≡ componentAt s lim at) × ComponentIn (at + 5) lim r
   unfolding componentAt
-  component-none z q = told (eq _ _ _ _ (ap (λ (f : Frame). f .stop) (sym frame) ∙ z) (q ∙ ap (λ (t : ℕ). faulty t noID noProblem 2 0) tag))
+  component-none z q = told (eq _ _ _ _ (ap (λ (f : Frame). f .stop) (sym frame) ∙ z) (q ∙ ap (λ (t : ℕ). faulty t noID noProblem badlyStructured 0) tag))
 
   pub component-framed : (f .stop ≡ 0 → ⊥) → r ≡ framed s lim at t f → (r ≡ componentAt s lim at) × ComponentIn (at + 5) lim r
   unfolding componentAt

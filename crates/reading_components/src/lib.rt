@@ -3,20 +3,30 @@
 ghost use mathlib.Core.Path.{_≡_};
 ghost use Prim.Native.Nat.{ℕ, _+_, _*_, _-_, _<_, _≤_};
 ghost use lib.ListN.{length};
+ghost use Rattle.paper.specs.Sizes.{depths};
 ghost use Rattle.paper.specs.Elements.{element};
-ghost use Rattle.paper.specs.Components.{knownTag, sound, faulty, single, someEnd, codeEnd, oneElement, lastPiece, invokePieces, resultBoth, resultPieces};
-ghost use Rattle.paper.specs.Components.{problemAt, invokeProblem, rejectPieces, nullPieces, piecesAfter, pieces, readProblem, framed, tagAt, componentAt};
+ghost use Rattle.paper.specs.Components.{knownTag, sound, faulty, single, someEnd, codeEnd, frameEnds, lastPiece, invokePieces, resultBoth, resultPieces};
+ghost use Rattle.paper.specs.Components.{problemAt, tag81, rejectPieces, nullPieces, piecesAfter, pieces, readProblem, badlyStructured, framed, tagAt, componentAt};
 ghost use Rattle.reading_elements.specs.Bounds.{nested};
 ghost use Rattle.reading_components.specs.Bounds.{ComponentIn};
+use paper::BADLY_STRUCTURED;
 use paper::Component;
+use paper::DEPTHS;
+use paper::DEPTHS_FROM_2;
+use paper::DEPTHS_FROM_3;
+use paper::ERROR_TAG;
 use paper::Frame;
+use paper::INVOKE_TAG;
+use paper::LAST_TAG;
 use paper::Length;
-
-fn wide(x: u8) -> u32
-    ensures { λ r. ⌜ (r ≡ x) × (r < 256) ⌝ }
-{
-    x as u32
-}
+use paper::MISTYPED;
+use paper::NO_FAULT;
+use paper::NO_ID;
+use paper::NO_PROBLEM;
+use paper::NOT_LAST_TAG;
+use paper::REJECT_TAG;
+use paper::SOME_INVOKE_PROBLEM;
+use paper::UNRECOGNIZED;
 
 fn sound(
     t: u8,
@@ -34,7 +44,7 @@ fn sound(
         id,
         linked,
         problem,
-        fault: 3,
+        fault: NO_FAULT,
         stop: x,
         par,
         parstop,
@@ -47,7 +57,7 @@ fn faulty(t: u8, id: u32, problem: u32, code: u8, x: usize) -> Component
     Component {
         tag: t,
         id,
-        linked: 256,
+        linked: NO_ID,
         problem,
         fault: code,
         stop: x,
@@ -59,19 +69,19 @@ fn faulty(t: u8, id: u32, problem: u32, code: u8, x: usize) -> Component
 fn known_tag(t: u8) -> bool
     ensures { λ r. ⌜ r ≡ knownTag t ⌝ }
 {
-    if t == 0xA1 {
+    if t == INVOKE_TAG {
         return true;
     }
-    if t == 0xA2 {
+    if t == LAST_TAG {
         return true;
     }
-    if t == 0xA3 {
+    if t == ERROR_TAG {
         return true;
     }
-    if t == 0xA4 {
+    if t == REJECT_TAG {
         return true;
     }
-    t == 0xA7
+    t == NOT_LAST_TAG
 }
 
 // "Invoke ID 02 01, linked 80 01": the octet of an element `tag 01 x`, else 256.
@@ -81,18 +91,18 @@ pub fn single(s: &[u8], tag: u8, e: usize, p: usize) -> u32
     ensures within { λ r. ⌜ (r < 256 → p + 3 ≤ e) × (r ≤ 256) ⌝ }
 {
     if e < p {
-        return 256;
+        return NO_ID;
     }
     if e - p < 3 {
-        return 256;
+        return NO_ID;
     }
     if s[p] != tag {
-        return 256;
+        return NO_ID;
     }
     if s[p + 1] != 1 {
-        return 256;
+        return NO_ID;
     }
-    wide(s[p + 2])
+    laws::number(s[p + 2])
 }
 
 // Past an element of at least 1 octet inside e, by its length; else 0.
@@ -143,10 +153,10 @@ pub fn code_end(s: &[u8], e: usize, p: usize) -> usize
     0
 }
 
-// "A parameter is one element": one that begins at p and ends at e.
-fn one_element(s: &[u8], left: usize, e: usize, p: usize) -> bool
+// "A parameter is one element": the frame of the one at p ends at e.
+fn frame_ends(s: &[u8], left: usize, e: usize, p: usize) -> bool
     requires { ⌜ e ≤ length (now s) ⌝ }
-    ensures { λ r. ⌜ r ≡ oneElement (now (s .entry)) left e p ⌝ }
+    ensures { λ r. ⌜ r ≡ frameEnds (now (s .entry)) left e p ⌝ }
 {
     let f = reading_elements::frame_at(s, left, e, p);
     f.stop == e
@@ -158,15 +168,15 @@ fn last_piece(s: &[u8], t: u8, id: u32, linked: u32, x: usize, e: usize, q: usiz
     ensures { λ r. ⌜ r ≡ lastPiece (now (s .entry)) t id linked x e q ⌝ }
 {
     if q == 0 {
-        return faulty(t, id, 65535, 1, x);
+        return faulty(t, id, NO_PROBLEM, MISTYPED, x);
     }
     if q == e {
-        return sound(t, id, linked, 65535, x, 0, 0);
+        return sound(t, id, linked, NO_PROBLEM, x, 0, 0);
     }
-    if one_element(s, 15, e, q) {
-        return sound(t, id, linked, 65535, x, q, e);
+    if frame_ends(s, DEPTHS_FROM_2, e, q) {
+        return sound(t, id, linked, NO_PROBLEM, x, q, e);
     }
-    faulty(t, id, 65535, 1, x)
+    faulty(t, id, NO_PROBLEM, MISTYPED, x)
 }
 
 // The linked ID stands after the invoke ID, at p; the operation after it.
@@ -175,12 +185,12 @@ fn invoke_pieces(s: &[u8], id: u32, x: usize, e: usize, p: usize) -> Component
     ensures { λ r. ⌜ r ≡ invokePieces (now (s .entry)) id x e p ⌝ }
 {
     let linked = single(s, 0x80, e, p);
-    if linked == 256 {
+    if linked == NO_ID {
         let q = code_end(s, e, p);
-        return last_piece(s, 0xA1, id, 256, x, e, q);
+        return last_piece(s, INVOKE_TAG, id, NO_ID, x, e, q);
     }
     let q = code_end(s, e, p + 3);
-    last_piece(s, 0xA1, id, linked, x, e, q)
+    last_piece(s, INVOKE_TAG, id, linked, x, e, q)
 }
 
 // Inside the 30: operation and parameter, both.
@@ -189,12 +199,12 @@ fn result_both(s: &[u8], t: u8, id: u32, x: usize, e: usize, q: usize) -> Compon
     ensures { λ r. ⌜ r ≡ resultBoth (now (s .entry)) t id x e q ⌝ }
 {
     if q == 0 {
-        return faulty(t, id, 65535, 1, x);
+        return faulty(t, id, NO_PROBLEM, MISTYPED, x);
     }
-    if one_element(s, 14, e, q) {
-        return sound(t, id, 256, 65535, x, q, e);
+    if frame_ends(s, DEPTHS_FROM_3, e, q) {
+        return sound(t, id, NO_ID, NO_PROBLEM, x, q, e);
     }
-    faulty(t, id, 65535, 1, x)
+    faulty(t, id, NO_PROBLEM, MISTYPED, x)
 }
 
 // "result 30 holding operation and parameter"; "a result lacks the whole 30 then".
@@ -203,14 +213,14 @@ fn result_pieces(s: &[u8], t: u8, id: u32, x: usize, e: usize, p: usize) -> Comp
     ensures { λ r. ⌜ r ≡ resultPieces (now (s .entry)) t id x e p ⌝ }
 {
     if p == e {
-        return sound(t, id, 256, 65535, x, 0, 0);
+        return sound(t, id, NO_ID, NO_PROBLEM, x, 0, 0);
     }
     if s[p] != 0x30 {
-        return faulty(t, id, 65535, 1, x);
+        return faulty(t, id, NO_PROBLEM, MISTYPED, x);
     }
-    let f = reading_elements::frame_at(s, 15, e, p);
+    let f = reading_elements::frame_at(s, DEPTHS_FROM_2, e, p);
     if f.stop != e {
-        return faulty(t, id, 65535, 1, x);
+        return faulty(t, id, NO_PROBLEM, MISTYPED, x);
     }
     let q = code_end(s, f.to, f.from);
     result_both(s, t, id, x, f.to, q)
@@ -222,34 +232,37 @@ fn problem_at(s: &[u8], e: usize, p: usize) -> u32
     ensures { λ r. ⌜ r ≡ problemAt (now (s .entry)) e p ⌝ }
 {
     if e - p != 3 {
-        return 65535;
+        return NO_PROBLEM;
     }
-    let t = wide(s[p]);
+    let t = laws::number(s[p]);
     if t < 0x80 {
-        return 65535;
+        return NO_PROBLEM;
     }
     if s[p + 1] != 1 {
-        return 65535;
+        return NO_PROBLEM;
     }
-    let code = wide(s[p + 2]);
+    let code = laws::number(s[p + 2]);
     if reading_problems::sender(t - 0x80, code) == 2 {
-        return 65535;
+        return NO_PROBLEM;
     }
     (t - 0x80) * 256 + code
 }
 
-// "tag 81 can be read" after the ID, at p.
-fn invoke_problem(s: &[u8], e: usize, p: usize) -> u32
+// A faulty reject "returns one to Idle only if ID and tag 81 can be read": the tag after the ID, at p.
+fn tag_81(s: &[u8], id: u32, e: usize, p: usize) -> u32
     requires { ⌜ e ≤ length (now s) ⌝ }
-    ensures { λ r. ⌜ r ≡ invokeProblem (now (s .entry)) e p ⌝ }
+    ensures { λ r. ⌜ r ≡ tag81 (now (s .entry)) id e p ⌝ }
 {
+    if id == NO_ID {
+        return NO_PROBLEM;
+    }
     if p >= e {
-        return 65535;
+        return NO_PROBLEM;
     }
     if s[p] == 0x81 {
-        return 256;
+        return SOME_INVOKE_PROBLEM;
     }
-    65535
+    NO_PROBLEM
 }
 
 fn reject_pieces(s: &[u8], id: u32, x: usize, e: usize, p: usize) -> Component
@@ -257,14 +270,11 @@ fn reject_pieces(s: &[u8], id: u32, x: usize, e: usize, p: usize) -> Component
     ensures { λ r. ⌜ r ≡ rejectPieces (now (s .entry)) id x e p ⌝ }
 {
     let problem = problem_at(s, e, p);
-    if problem != 65535 {
-        return sound(0xA4, id, 256, problem, x, 0, 0);
+    if problem != NO_PROBLEM {
+        return sound(REJECT_TAG, id, NO_ID, problem, x, 0, 0);
     }
-    if id == 256 {
-        return faulty(0xA4, id, 65535, 1, x);
-    }
-    let read = invoke_problem(s, e, p);
-    faulty(0xA4, id, read, 1, x)
+    let read = tag_81(s, id, e, p);
+    faulty(REJECT_TAG, id, read, MISTYPED, x)
 }
 
 // A reject without an ID: 05 00 first.
@@ -273,18 +283,18 @@ fn null_pieces(s: &[u8], x: usize, e: usize, b: usize) -> Component
     ensures { λ r. ⌜ r ≡ nullPieces (now (s .entry)) x e b ⌝ }
 {
     if e < b {
-        return faulty(0xA4, 256, 65535, 1, x);
+        return faulty(REJECT_TAG, NO_ID, NO_PROBLEM, MISTYPED, x);
     }
     if e - b < 2 {
-        return faulty(0xA4, 256, 65535, 1, x);
+        return faulty(REJECT_TAG, NO_ID, NO_PROBLEM, MISTYPED, x);
     }
     if s[b] != 5 {
-        return faulty(0xA4, 256, 65535, 1, x);
+        return faulty(REJECT_TAG, NO_ID, NO_PROBLEM, MISTYPED, x);
     }
     if s[b + 1] != 0 {
-        return faulty(0xA4, 256, 65535, 1, x);
+        return faulty(REJECT_TAG, NO_ID, NO_PROBLEM, MISTYPED, x);
     }
-    reject_pieces(s, 256, x, e, b + 2)
+    reject_pieces(s, NO_ID, x, e, b + 2)
 }
 
 // The pieces after an invoke ID, by the tag.
@@ -292,14 +302,14 @@ fn pieces_after(s: &[u8], t: u8, id: u32, x: usize, e: usize, p: usize) -> Compo
     requires { ⌜ (p ≤ e) × (e ≤ length (now s)) ⌝ }
     ensures { λ r. ⌜ r ≡ piecesAfter (now (s .entry)) t id x e p ⌝ }
 {
-    if t == 0xA1 {
+    if t == INVOKE_TAG {
         return invoke_pieces(s, id, x, e, p);
     }
-    if t == 0xA3 {
+    if t == ERROR_TAG {
         let q = code_end(s, e, p);
-        return last_piece(s, 0xA3, id, 256, x, e, q);
+        return last_piece(s, ERROR_TAG, id, NO_ID, x, e, q);
     }
-    if t == 0xA4 {
+    if t == REJECT_TAG {
         return reject_pieces(s, id, x, e, p);
     }
     result_pieces(s, t, id, x, e, p)
@@ -310,48 +320,42 @@ fn pieces(s: &[u8], t: u8, x: usize, e: usize, b: usize) -> Component
     ensures { λ r. ⌜ r ≡ pieces (now (s .entry)) t x e b ⌝ }
 {
     let id = single(s, 2, e, b);
-    if id != 256 {
+    if id != NO_ID {
         return pieces_after(s, t, id, x, e, b + 3);
     }
-    if t == 0xA4 {
+    if t == REJECT_TAG {
         return null_pieces(s, x, e, b);
     }
-    faulty(t, 256, 65535, 1, x)
+    faulty(t, NO_ID, NO_PROBLEM, MISTYPED, x)
 }
 
-// What of a faulty reject's problem can be read: "only if ID and tag 81 can be read".
-fn read_problem(s: &[u8], t: u8, e: usize, b: usize) -> u32
-    requires { ⌜ e ≤ length (now s) ⌝ }
-    ensures { λ r. ⌜ r ≡ readProblem (now (s .entry)) t e b ⌝ }
+// One with bad nesting, with its ID; of a reject the tag after it too.
+fn misnested(s: &[u8], t: u8, f: Frame) -> Component
+    requires { ⌜ (f .from ≤ f .to) × (f .to ≤ length (now s)) ⌝ }
+    ensures { λ r. ⌜ r ≡ faulty t (single (now (s .entry)) 2 (f .to) (f .from)) (readProblem (now (s .entry)) t (f .to) (f .from)) badlyStructured (f .stop) ⌝ }
 {
-    if t != 0xA4 {
-        return 65535;
+    let id = single(s, 2, f.to, f.from);
+    if t == REJECT_TAG {
+        let read = tag_81(s, id, f.to, f.from + 3);
+        return faulty(t, id, read, BADLY_STRUCTURED, f.stop);
     }
-    if single(s, 2, e, b) == 256 {
-        return 65535;
-    }
-    invoke_problem(s, e, b + 3)
+    faulty(t, id, NO_PROBLEM, BADLY_STRUCTURED, f.stop)
 }
 
 // One that has a frame: "unknown tag 0; bad nesting 2; wrong, missing or extra piece 1. The ID is used if the first piece is 02 01".
 // `sound` is whether the element in the frame is well formed.
 fn framed(s: &[u8], t: u8, f: Frame, sound: bool) -> Component
-    requires { ⌜ f .to ≤ length (now s) ⌝ }
-    ensures { λ r. ⌜ ((lim at : ℕ) → sound ≡ nested (element (now (s .entry)) 16 lim at) → r ≡ framed (now (s .entry)) lim at t f) ⌝ }
+    requires { ⌜ (f .from ≤ f .to) × (f .to ≤ length (now s)) ⌝ }
+    ensures { λ r. ⌜ ((lim at : ℕ) → sound ≡ nested (element (now (s .entry)) depths lim at) → r ≡ framed (now (s .entry)) lim at t f) ⌝ }
 {
-    let e = f.to;
-    let b = f.from;
-    let x = f.stop;
     if known_tag(t) {
         if sound {
-            return pieces(s, t, x, e, b);
+            return pieces(s, t, f.stop, f.to, f.from);
         }
-        let id = single(s, 2, e, b);
-        let problem = read_problem(s, t, e, b);
-        return faulty(t, id, problem, 2, x);
+        return misnested(s, t, f);
     }
-    let id = single(s, 2, e, b);
-    faulty(t, id, 65535, 0, x)
+    let id = single(s, 2, f.to, f.from);
+    faulty(t, id, NO_PROBLEM, UNRECOGNIZED, f.stop)
 }
 
 // The first octet at a position, 0 where there is none.
@@ -372,10 +376,10 @@ pub fn component_at(s: &[u8], lim: usize, at: usize) -> Component
     ensures within { λ r. ⌜ ComponentIn (at + 5) lim r ⌝ }
 {
     let t = tag_at(s, lim, at);
-    let n = reading_elements::nesting_at(s, 16, lim, at);
+    let n = reading_elements::nesting_at(s, DEPTHS, lim, at);
     let f = n.frame;
     if f.stop == 0 {
-        return faulty(t, 256, 65535, 2, 0);
+        return faulty(t, NO_ID, NO_PROBLEM, BADLY_STRUCTURED, 0);
     }
     framed(s, t, f, n.sound)
 }

@@ -24,12 +24,6 @@ const NO_FRAME: Frame = Frame {
     stop: 0,
 };
 
-fn wide(x: u8) -> usize
-    ensures { λ r. ⌜ (r ≡ x) × (r < 256) ⌝ }
-{
-    x as usize
-}
-
 // "Long tags have 1 to 4 further octets": past the last of them, else 0.
 fn tag_more(s: &[u8], lim: usize, at: usize) -> usize
     requires { ⌜ lim ≤ length (now s) ⌝ }
@@ -90,7 +84,7 @@ pub fn length_at(s: &[u8], lim: usize, at: usize) -> Length
     if at >= lim {
         return Length::Wrong;
     }
-    let l = wide(s[at]);
+    let l = laws::wide(s[at]);
     if l < 128 {
         return Length::Given(at + 1, l);
     }
@@ -101,7 +95,7 @@ pub fn length_at(s: &[u8], lim: usize, at: usize) -> Length
         if at + 1 >= lim {
             return Length::Wrong;
         }
-        let n = wide(s[at + 1]);
+        let n = laws::wide(s[at + 1]);
         if n < 128 {
             return Length::Wrong;
         }
@@ -113,7 +107,7 @@ pub fn length_at(s: &[u8], lim: usize, at: usize) -> Length
     if lim - at < 3 {
         return Length::Wrong;
     }
-    let n = wide(s[at + 1]) * 256 + wide(s[at + 2]);
+    let n = laws::wide(s[at + 1]) * 256 + laws::wide(s[at + 2]);
     if n < 256 {
         return Length::Wrong;
     }
@@ -168,7 +162,7 @@ fn short_head(s: &[u8], lim: usize, at: usize) -> Head
     requires { ⌜ (lim ≤ length (now s)) × Short (now s) lim at ⌝ }
     ensures { λ r. ⌜ r ≡ headAt (now (s .entry)) lim at ⌝ }
 {
-    let n = wide(s[at + 1]);
+    let n = laws::wide(s[at + 1]);
     if lim - at - 2 < n {
         return Head::Bad;
     }

@@ -8,11 +8,23 @@ ghost use Rattle.paper.specs.declared.Reading.the-variants.{Ends};
 ghost use Rattle.paper.specs.declared.Length.the-variants.{Given, Until};
 ghost use Rattle.reading_messages.specs.Bounds.{RunIn, MessageIn};
 ghost use Rattle.reading_messages.specs.Steps.{seen};
+use paper::ABORT_TAG;
+use paper::BEGIN_TAG;
+use paper::CONTINUE_TAG;
+use paper::DEPTHS;
+use paper::END_TAG;
 use paper::Frame;
+use paper::IS_DROPPED;
+use paper::IS_SOUND;
 use paper::Length;
 use paper::Message;
+use paper::NO_PROBLEM;
 use paper::Reading;
 use paper::Run;
+use paper::UNI_TAG;
+
+// "a component .. is depth 1": the 6C around it is one more.
+const DEPTHS_OF_6C: usize = DEPTHS + 1;
 
 const NONE: Run = Run {
     start: 0,
@@ -24,12 +36,6 @@ struct Seen {
     tag: u8,
     origin: Run,
     destination: Run,
-}
-
-fn wide(x: u8) -> usize
-    ensures { λ r. ⌜ (r ≡ x) × (r < 256) ⌝ }
-{
-    x as usize
 }
 
 // An ID at a position, "a length 1 to 4 and that many octets inside the message".
@@ -47,7 +53,7 @@ fn id_at(s: &[u8], tag: u8, at: usize) -> Run
     if s[at] != tag {
         return NONE;
     }
-    let l = wide(s[at + 1]);
+    let l = laws::wide(s[at + 1]);
     if l < 1 {
         return NONE;
     }
@@ -68,13 +74,13 @@ fn origin_of(s: &[u8], t: u8, b: usize) -> Run
     ensures is { λ r. ⌜ r ≡ originOf (now (s .entry)) t b ⌝ }
     ensures within { λ r. ⌜ RunIn (length (now (s .entry))) r ⌝ }
 {
-    if t == 0x61 {
+    if t == UNI_TAG {
         return NONE;
     }
-    if t == 0x64 {
+    if t == END_TAG {
         return NONE;
     }
-    if t == 0x67 {
+    if t == ABORT_TAG {
         return NONE;
     }
     id_at(s, 0x48, b)
@@ -97,16 +103,16 @@ fn destination_of(s: &[u8], t: u8, b: usize, origin: Run) -> Run
     ensures is { λ r. ⌜ r ≡ destinationOf (now (s .entry)) t b origin ⌝ }
     ensures within { λ r. ⌜ RunIn (length (now (s .entry))) r ⌝ }
 {
-    if t == 0x61 {
+    if t == UNI_TAG {
         return NONE;
     }
-    if t == 0x62 {
+    if t == BEGIN_TAG {
         return NONE;
     }
-    if t == 0x64 {
+    if t == END_TAG {
         return id_at(s, 0x49, b);
     }
-    if t == 0x67 {
+    if t == ABORT_TAG {
         return id_at(s, 0x49, b);
     }
     if origin.length == 0 {
@@ -145,7 +151,7 @@ fn fault_of(d: Seen, cause: u8) -> Message
         portion,
         from: 0,
         to: 0,
-        cause: 65535,
+        cause: NO_PROBLEM,
     }
 }
 
@@ -156,7 +162,7 @@ fn sound_of(d: Seen, portion: Run, from: usize, to: usize, cause: u32) -> Messag
     let destination = d.destination;
     Message {
         tag: d.tag,
-        fault: 255,
+        fault: IS_SOUND,
         origin,
         destination,
         portion,
@@ -213,22 +219,22 @@ fn components_by(s: &[u8], indefinite: bool, d: Seen, portion: Run, f: Frame) ->
     if f.stop == 0 {
         return fault_of(d, 2);
     }
-    let m = sound_of(d, portion, f.from, f.to, 65535);
+    let m = sound_of(d, portion, f.from, f.to, NO_PROBLEM);
     closing(s, indefinite, f.stop, d, m)
 }
 
-// "then 6C components, optional but in Unidirectional needed". What it holds is a component, depth 1: so 17 depths from the 6C on.
+// "then 6C components, optional but in Unidirectional needed".
 fn components_part(s: &[u8], indefinite: bool, d: Seen, portion: Run, p: usize) -> Message
     ensures { λ r. ⌜ r ≡ componentsPart (now (s .entry)) indefinite (seen d) portion p ⌝ }
 {
     if octet_at(s, p) == 0x6C {
-        let f = reading_elements::frame_at(s, 17, s.len(), p);
+        let f = reading_elements::frame_at(s, DEPTHS_OF_6C, s.len(), p);
         return components_by(s, indefinite, d, portion, f);
     }
-    if d.tag == 0x61 {
+    if d.tag == UNI_TAG {
         return fault_of(d, 2);
     }
-    let m = sound_of(d, portion, 0, 0, 65535);
+    let m = sound_of(d, portion, 0, 0, NO_PROBLEM);
     closing(s, indefinite, p, d, m)
 }
 
@@ -238,7 +244,7 @@ fn abort_part(s: &[u8], indefinite: bool, d: Seen, p: usize) -> Message
 {
     let none = NONE;
     if octet_at(s, p) != 0x4A {
-        let m = sound_of(d, none, 0, 0, 65535);
+        let m = sound_of(d, none, 0, 0, NO_PROBLEM);
         return closing(s, indefinite, p, d, m);
     }
     if octet_at(s, p + 1) != 1 {
@@ -264,8 +270,8 @@ fn after_portion(s: &[u8], indefinite: bool, d: Seen, p: usize, x: usize) -> Mes
         start: p,
         length: x - p,
     };
-    if d.tag == 0x67 {
-        let m = sound_of(d, portion, 0, 0, 65535);
+    if d.tag == ABORT_TAG {
+        let m = sound_of(d, portion, 0, 0, NO_PROBLEM);
         return closing(s, indefinite, x, d, m);
     }
     components_part(s, indefinite, d, portion, x)
@@ -276,7 +282,7 @@ fn portion_part(s: &[u8], indefinite: bool, d: Seen, p: usize) -> Message
     ensures { λ r. ⌜ r ≡ portionPart (now (s .entry)) indefinite (seen d) p ⌝ }
 {
     if octet_at(s, p) == 0x6B {
-        match reading_elements::element(s, 16, s.len(), p) {
+        match reading_elements::element(s, DEPTHS, s.len(), p) {
             Reading::Fault(_f) => {
                 return fault_of(d, 2);
             }
@@ -285,7 +291,7 @@ fn portion_part(s: &[u8], indefinite: bool, d: Seen, p: usize) -> Message
             }
         }
     }
-    if d.tag == 0x67 {
+    if d.tag == ABORT_TAG {
         return abort_part(s, indefinite, d, p);
     }
     let none = NONE;
@@ -297,12 +303,12 @@ fn in_order(s: &[u8], indefinite: bool, b: usize, d: Seen) -> Message
     requires { ⌜ (RunIn (length (now s)) (d .origin)) × (RunIn (length (now s)) (d .destination)) ⌝ }
     ensures { λ r. ⌜ r ≡ inOrder (now (s .entry)) indefinite b (seen d) ⌝ }
 {
-    if d.tag == 0x61 {
+    if d.tag == UNI_TAG {
         return portion_part(s, indefinite, d, b);
     }
     let origin = d.origin;
     let destination = d.destination;
-    if d.tag == 0x62 {
+    if d.tag == BEGIN_TAG {
         if origin.length == 0 {
             return fault_of(d, 2);
         }
@@ -319,19 +325,19 @@ fn in_order(s: &[u8], indefinite: bool, b: usize, d: Seen) -> Message
 fn known_type(t: u8) -> bool
     ensures { λ r. ⌜ r ≡ knownType t ⌝ }
 {
-    if t == 0x61 {
+    if t == UNI_TAG {
         return true;
     }
-    if t == 0x62 {
+    if t == BEGIN_TAG {
         return true;
     }
-    if t == 0x64 {
+    if t == END_TAG {
         return true;
     }
-    if t == 0x65 {
+    if t == CONTINUE_TAG {
         return true;
     }
-    t == 0x67
+    t == ABORT_TAG
 }
 
 // A definite one: "Octets after the outer element are a frame fault", as is an element that goes past the message.
@@ -358,7 +364,7 @@ fn by_until(s: &[u8], b: usize) -> Message
 {
     if s[0] / 32 % 2 != 1 {
         let none = derived(s, 0);
-        return fault_of(none, 254);
+        return fault_of(none, IS_DROPPED);
     }
     let d = derived(s, b);
     if known_type(d.tag) {
@@ -375,10 +381,10 @@ pub fn message_of(s: &[u8]) -> Message
 {
     let d = derived(s, 0);
     if s[0] % 32 == 31 {
-        return fault_of(d, 254);
+        return fault_of(d, IS_DROPPED);
     }
     match reading_elements::length_at(s, s.len(), 1) {
-        Length::Wrong => fault_of(d, 254),
+        Length::Wrong => fault_of(d, IS_DROPPED),
         Length::Until(b) => by_until(s, b),
         Length::Given(b, n) => by_given(s, b, n),
     }

@@ -4,6 +4,7 @@ ghost use Prim.Native.Nat.{_+_, _≤_};
 ghost use lib.ListN.{length};
 ghost use Rattle.paper.specs.Readers.{parameterOf, parameterAt, parameter};
 use paper::Component;
+use paper::NO_FAULT;
 use paper::Run;
 
 const NONE: Run = Run {
@@ -17,7 +18,7 @@ fn parameter_of(stop: usize, c: Component) -> Run
     ensures is { λ r. ⌜ r ≡ parameterOf stop c ⌝ }
     ensures within { λ r. ⌜ r .start + r .length ≤ c .parstop ⌝ }
 {
-    if c.fault != 3 {
+    if c.fault != NO_FAULT {
         return NONE;
     }
     if c.stop != stop {

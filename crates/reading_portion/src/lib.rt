@@ -14,7 +14,14 @@ use paper::AARE;
 use paper::AARQ;
 use paper::ABRT;
 use paper::AUDT;
+use paper::DEPTHS;
+use paper::DEPTHS_FROM_2;
+use paper::DEPTHS_FROM_3;
+use paper::DEPTHS_FROM_4;
+use paper::DEPTHS_FROM_5;
+use paper::DEPTHS_FROM_6;
 use paper::Frame;
+use paper::NO_ID;
 use paper::Pdu;
 use paper::Portion;
 use paper::Reading;
@@ -93,11 +100,11 @@ fn value_in(l: &[u8], most: u32, f: Frame) -> u32
     ensures within { λ r. ⌜ r ≤ 256 ⌝ }
 {
     if f.to - f.from != 3 {
-        return 256;
+        return NO_ID;
     }
     let v = reading_components::single(l, 2, f.to, f.from);
     if most < v {
-        return 256;
+        return NO_ID;
     }
     v
 }
@@ -119,7 +126,7 @@ fn version_at(l: &[u8], e: usize, w: Pdu) -> Pdu
     if reading_components::tag_at(l, e, w.at) != 0x80 {
         return w;
     }
-    let f = reading_elements::frame_at(l, 12, e, w.at);
+    let f = reading_elements::frame_at(l, DEPTHS_FROM_5, e, w.at);
     goes_to(w, f.stop)
 }
 
@@ -128,7 +135,7 @@ fn name_at(l: &[u8], e: usize, w: Pdu) -> Pdu
     requires { ⌜ e ≤ length (now l) ⌝ }
     ensures { λ r. ⌜ r ≡ piece (now (l .entry)) e w Piece.Name ⌝ }
 {
-    let f = tagged(l, 12, 0xA1, e, w.at);
+    let f = tagged(l, DEPTHS_FROM_5, 0xA1, e, w.at);
     if reading_components::tag_at(l, f.to, f.from) != 6 {
         return goes_to(w, 0);
     }
@@ -150,9 +157,9 @@ fn result_at(l: &[u8], e: usize, w: Pdu) -> Pdu
     requires { ⌜ e ≤ length (now l) ⌝ }
     ensures { λ r. ⌜ r ≡ piece (now (l .entry)) e w Piece.Result ⌝ }
 {
-    let f = tagged(l, 12, 0xA2, e, w.at);
+    let f = tagged(l, DEPTHS_FROM_5, 0xA2, e, w.at);
     let result = value_in(l, 1, f);
-    if result == 256 {
+    if result == NO_ID {
         return goes_to(w, 0);
     }
     let mut v = w;
@@ -176,15 +183,15 @@ fn diagnostic_at(l: &[u8], e: usize, w: Pdu) -> Pdu
     requires { ⌜ e ≤ length (now l) ⌝ }
     ensures { λ r. ⌜ r ≡ piece (now (l .entry)) e w Piece.Diagnostic ⌝ }
 {
-    let f = tagged(l, 12, 0xA3, e, w.at);
-    let a = only(l, 11, 0xA1, f.to, f.from);
+    let f = tagged(l, DEPTHS_FROM_5, 0xA3, e, w.at);
+    let a = only(l, DEPTHS_FROM_6, 0xA1, f.to, f.from);
     let user = value_in(l, 2, a);
-    if user != 256 {
+    if user != NO_ID {
         return with_diagnostic(w, 256 + user, f.stop);
     }
-    let b = only(l, 11, 0xA2, f.to, f.from);
+    let b = only(l, DEPTHS_FROM_6, 0xA2, f.to, f.from);
     let provider = value_in(l, 2, b);
-    if provider != 256 {
+    if provider != NO_ID {
         return with_diagnostic(w, 512 + provider, f.stop);
     }
     goes_to(w, 0)
@@ -229,7 +236,7 @@ fn information_at(l: &[u8], e: usize, w: Pdu) -> Pdu
     if reading_components::tag_at(l, e, w.at) != 0xBE {
         return w;
     }
-    let f = reading_elements::frame_at(l, 12, e, w.at);
+    let f = reading_elements::frame_at(l, DEPTHS_FROM_5, e, w.at);
     let information = run_of(w.at, f.stop);
     let mut v = w;
     v.information = information;
@@ -329,8 +336,8 @@ fn external(l: &[u8]) -> Frame
     ensures is { λ r. ⌜ r ≡ external (now (l .entry)) ⌝ }
     ensures within { λ r. ⌜ (r .from ≤ r .to) × (r .to ≤ length (now (l .entry))) ⌝ }
 {
-    let f = reading_elements::frame_at(l, 16, l.len(), 0);
-    only(l, 15, 0x28, f.to, f.from)
+    let f = reading_elements::frame_at(l, DEPTHS, l.len(), 0);
+    only(l, DEPTHS_FROM_2, 0x28, f.to, f.from)
 }
 
 // In the 28 x the object identifier's octets and the A0 and nothing else, in the A0 the PDU of that tag and nothing else.
@@ -340,8 +347,8 @@ fn pdu_by(l: &[u8], x: Frame, identifier: &[u8], tag: u8) -> Frame
     ensures within { λ r. ⌜ r .to ≤ length (now (l .entry)) ⌝ }
 {
     if stands(l, x.to, x.from, identifier) {
-        let a = only(l, 14, 0xA0, x.to, x.from + identifier.len());
-        return only(l, 13, tag, a.to, a.from);
+        let a = only(l, DEPTHS_FROM_3, 0xA0, x.to, x.from + identifier.len());
+        return only(l, DEPTHS_FROM_4, tag, a.to, a.from);
     }
     NO_FRAME
 }
@@ -399,7 +406,7 @@ pub fn portion(l: &[u8]) -> Portion
     if reading_components::tag_at(l, n, 0) != 0x6B {
         return Portion::Absent;
     }
-    match reading_elements::element(l, 16, n, 0) {
+    match reading_elements::element(l, DEPTHS, n, 0) {
         Reading::Fault(_f) => Portion::Absent,
         Reading::Ends(e) => {
             if e != n {

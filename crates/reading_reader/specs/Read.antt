@@ -9,7 +9,7 @@ use Rattle.laws.specs.If.{ifLt, ifEq}
 use Rattle.paper.specs.declared.Component.{Component}
 use Rattle.paper.specs.declared.Message.{Message}
 use Rattle.paper.specs.Sizes.{longestMessage}
-use Rattle.paper.specs.Components.{Item, componentAt}
+use Rattle.paper.specs.Components.{Item, componentAt, noFault}
 use Rattle.paper.specs.Messages.{messageOf, isSound}
 use Rattle.reading_reader.specs.declared.Reader.{Reader}
 use Rattle.reading_reader.specs.declared.Piece.{Piece}
@@ -25,7 +25,7 @@ firstCursor s = ifEq (length s) 0 0 (ifLt longestMessage (length s) 0 (cursorOf 
 
 -- "up to a syntax fault"
 unfoldable pub pieceOf : ℕ → ℕ → Component → Piece
-pieceOf lim at c = ifEq (c .fault) 3 (Part at c (lim * 1024 + c .stop)) End
+pieceOf lim at c = ifEq (c .fault) noFault (Part at c (lim * 1024 + c .stop)) End
 
 -- the component at a position, where they end at lim
 unfoldable pub pieceIn : List ℕ → ℕ → ℕ → Piece

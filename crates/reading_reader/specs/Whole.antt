@@ -12,7 +12,7 @@ use Rattle.laws.specs.If.{ifLt, lt, ge, eq, ne, either-lt, by-lt, by-eq}
 use Rattle.paper.specs.declared.Component.{Component}
 use Rattle.paper.specs.declared.Message.{Message}
 use Rattle.paper.specs.Sizes.{longestMessage}
-use Rattle.paper.specs.Components.{Item, item, componentAt, nextStart, goOn, items, components}
+use Rattle.paper.specs.Components.{Item, item, componentAt, nextStart, goOn, items, components, noFault}
 use Rattle.paper.specs.Messages.{messageOf, isSound}
 use Rattle.paper.specs.Calls.{itemsOf}
 use Rattle.paper.specs.Readers.{soundItems, itemsBy, messageItems}
@@ -78,7 +78,7 @@ module _ (msg : RefT (List ℕ)) where
     piece-here at p h e = cursor-at s lim at some (omega arith) ∙ sym (of-component s lim at _ p short inside h refl e)
 
     -- after a sound component, the same as what is given from where it stops
-    sound-rest : (n : ℕ) (c : Component) → c .fault ≡ 3 → c .stop ≤ lim
+    sound-rest : (n : ℕ) (c : Component) → c .fault ≡ noFault → c .stop ≤ lim
         → (c .stop < lim → Gives (standing (lim * 1024 + c .stop)) (soundItems (items s lim n (c .stop))))
         → Gives (standing (lim * 1024 + c .stop)) (soundItems (goOn (ltb (nextStart lim c) lim) (λ _. items s lim n (nextStart lim c))))
     unfolding soundItems nextStart
@@ -98,7 +98,7 @@ module _ (msg : RefT (List ℕ)) where
     sound-from (suc n) at h i =
         let c : Component = componentAt s lim at in
         let w : ComponentIn (at + 5) lim c = component-in s octets lim at c refl in
-        by-eq (c .fault) 3 (item s lim at ∷ soundItems (goOn (ltb (nextStart lim c) lim) (λ _. items s lim n (nextStart lim c)))) [] refl
+        by-eq (c .fault) noFault (item s lim at ∷ soundItems (goOn (ltb (nextStart lim c) lim) (λ _. items s lim n (nextStart lim c)))) [] refl
         (λ f q.
         let z = w .long f in
         as-list (goes at c (lim * 1024 + c .stop) (piece-here at _ (omega (arith, w .ends)) (eq _ _ _ _ f refl))
@@ -159,7 +159,7 @@ module _ (s : List ℕ) (octets : (i : ℕ) → getD s i 0 < 256) (k at : ℕ) (
       (λ f q.
       let i : c ≡ componentAt s lim p = cc in
       let w : ComponentIn (p + 5) lim c = component-in s octets lim p c i in
-      let g : c .fault ≡ 3 = ap (λ (c : Component). c .fault) i ∙ f in
+      let g : c .fault ≡ noFault = ap (λ (c : Component). c .fault) i ∙ f in
       let j : at ≡ p = cc in
       let x : next ≡ lim * 1024 + c .stop = cc in
       let l : p + 5 ≤ c .stop = w .long g in

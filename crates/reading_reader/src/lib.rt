@@ -2,6 +2,9 @@
 ghost use mathlib.Core.Path.{_≡_};
 ghost use Rattle.reading_reader.specs.Read.{firstCursor, pieceIn, pieceAt, atStart, nextOf, movedTo};
 use paper::Component;
+use paper::IS_SOUND;
+use paper::LONGEST_MESSAGE;
+use paper::NO_FAULT;
 
 // The message, and the cursor: 0 at its start, else 1024 times where the components end, plus where the next one starts.
 pub struct Reader<'a> {
@@ -22,11 +25,11 @@ fn first_cursor(s: &[u8]) -> usize
     if s.len() == 0 {
         return 0;
     }
-    if s.len() > 512 {
+    if s.len() > LONGEST_MESSAGE {
         return 0;
     }
     let m = reading_messages::message_of(s);
-    if m.fault != 255 {
+    if m.fault != IS_SOUND {
         return 0;
     }
     if m.from == 0 {
@@ -39,7 +42,7 @@ fn first_cursor(s: &[u8]) -> usize
 fn piece_in(s: &[u8], lim: usize, at: usize) -> Piece
     ensures { λ r. ⌜ r ≡ pieceIn (now (s .entry)) lim at ⌝ }
 {
-    if s.len() > 512 {
+    if s.len() > LONGEST_MESSAGE {
         return Piece::End;
     }
     if s.len() < lim {
@@ -49,7 +52,7 @@ fn piece_in(s: &[u8], lim: usize, at: usize) -> Piece
         return Piece::End;
     }
     let c = reading_components::component_at(s, lim, at);
-    if c.fault != 3 {
+    if c.fault != NO_FAULT {
         return Piece::End;
     }
     Piece::Part(at, c, lim * 1024 + c.stop)

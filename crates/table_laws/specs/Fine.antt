@@ -10,9 +10,9 @@ use Rattle.paper.specs.declared.Reject.{Reject}
 use Rattle.paper.specs.declared.Control.{Control}
 use Rattle.paper.specs.Problems.{senderOfProblem, byLayer, kindOf}
 use Rattle.paper.specs.Invocations.{noInvocation}
-use Rattle.paper.specs.Dialogues.{Place, emptyPlace, noReject}
+use Rattle.paper.specs.Dialogues.{Place, emptyPlace, noReject, hasPeer}
 use Rattle.paper.specs.Calls.{Table, placeAt}
-use Rattle.paper.specs.Rules.{hasPeer, waitingKept, tableShares}
+use Rattle.paper.specs.Rules.{waitingKept, tableShares}
 
 -- what a lent slice is
 abbrev pub Octets : List ℕ → Type 0

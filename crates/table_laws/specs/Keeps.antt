@@ -15,7 +15,7 @@ use Rattle.paper.specs.declared.Control.{Control}
 use Rattle.paper.specs.Invocations.{noInvocation, slotOf, idleSlot, invocationOf, stateOf, withInvocations, withInvocation, inState, toState, toIdle, passed, notLastShown, allTransmitted, withReject}
 use Rattle.paper.specs.Dialogues.{noReject, begun, withState, withoutRejects}
 use Rattle.paper.specs.Calls.{withPeer}
-use Rattle.paper.specs.Rules.{hasPeer}
+use Rattle.paper.specs.Dialogues.{hasPeer}
 use Rattle.table_laws.specs.Fine.{FineInvocation, FineInvocations, FineReject, FineRejects, FinePeer, FineControl}
 use Rattle.table_laws.specs.Slots.{empty-fine}
 use Rattle.table_laws.specs.Invocations.{idle-fine, same-id-fine, found-open, pass-fine, all-transmitted-fine}

@@ -14,8 +14,8 @@ use Rattle.paper.specs.declared.Reject.{Reject}
 use Rattle.paper.specs.declared.Control.{Control}
 use Rattle.paper.specs.Problems.{senderOf, senderOfProblem, byLayer, byUser, byNobody, kindOf}
 use Rattle.paper.specs.Invocations.{noInvocation, isOpen, slotOf}
-use Rattle.paper.specs.Dialogues.{Place, noReject}
-use Rattle.paper.specs.Rules.{invocationKept, differs, invocationsKept, rejectKept, rejectZero, rejectsKept, hasPeer, peerKept, dialogueKept}
+use Rattle.paper.specs.Dialogues.{Place, noReject, hasPeer}
+use Rattle.paper.specs.Rules.{invocationKept, differs, invocationsKept, rejectKept, rejectZero, rejectsKept, peerKept, dialogueKept}
 use Rattle.table_laws.specs.Zeros.{none-passes, no-first}
 use Rattle.table_laws.specs.Fine.{FineInvocation, FineInvocations, FineReject, FineRejects, FinePeer, FinePlace}
 

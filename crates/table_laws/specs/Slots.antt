@@ -9,14 +9,15 @@ use borrow.Author.Tests.{eqb-true, eqb-false, eq-eqb, ne-eqb}
 use lib.ListN.{length, getD, drop, replicate, length-drop, length-replicate, getD-replicate}
 use lib.Seq.{drop-drop}
 use Rattle.laws.specs.If.{ifLt, ifEq, ifB, ge, eq, ne, yes, no, was-ge, was-eq, was-yes, by-eq, true-false}
-use Rattle.laws.specs.Lists.{zeros, span-drop}
+use Rattle.laws.specs.Lists.{zeros, every, span-drop}
 use Rattle.paper.specs.declared.Invocation.{Invocation}
 use Rattle.paper.specs.Invocations.{noInvocation}
 use Rattle.paper.specs.Sizes.{mostWaiting}
-use Rattle.paper.specs.Dialogues.{Place, emptyPlace, noReject, dialogueFree}
+use Rattle.paper.specs.Components.{waitingItems}
+use Rattle.paper.specs.Dialogues.{Place, emptyPlace, noReject, hasPeer, dialogueFree}
 use Rattle.paper.specs.Calls.{isFree}
 use Rattle.paper.specs.Layout.{placeOctets, placeSize, stateAt, waitingLengthAt, waitingStart, placeBy, flag}
-use Rattle.paper.specs.Rules.{hasPeer, waitingKept, dialogueKept, placeKept}
+use Rattle.paper.specs.Rules.{waitingKept, dialogueKept, placeKept}
 use Rattle.table_laws.specs.Zeros.{zeros-are, zeros-of, pad-none, pad-rest}
 use Rattle.table_laws.specs.Fine.{Octets, FineInvocation, FineInvocations, FineRejects, FinePlace}
 use Rattle.table_laws.specs.Kept.{dialogue-is, dialogue-kept}
@@ -55,7 +56,7 @@ none-wait n = record {
 }
 
 pub empty-fine : (turn : ℕ) → turn < 16777216 → FinePlace (emptyPlace turn)
-unfolding hasPeer waitingKept zeros ifEq
+unfolding hasPeer waitingKept waitingItems every zeros ifEq
 empty-fine turn h = record {
   control = record {
     turn = h;

@@ -15,7 +15,7 @@ use Rattle.laws.specs.If.{ifLt, ifEq, ifB, lt, ge, eq, ne, yes, no, was-eq, tru
 use Rattle.laws.specs.Lists.{zeros, firstAt, every}
 use Rattle.laws.specs.Digits.{wordAt}
 use Rattle.paper.specs.declared.Component.{Component}
-use Rattle.paper.specs.Components.{componentAt, nextStart, goOn, items, components}
+use Rattle.paper.specs.Components.{componentAt, nextStart, goOn, items, components, waitingItems}
 use Rattle.paper.specs.Problems.{problem, codeOf, senderOf, senderOfProblem, byLayer}
 use Rattle.paper.specs.Invocations.{isOpen, slotOf}
 use Rattle.paper.specs.Layout.{invocationBy, invocationsAt, rejectBy, rejectsAt, placeStart, slot, mapBit}
@@ -344,11 +344,11 @@ free-words s e z =
 
 -- ---- the waiting octets
 pub octets-none : (s : List ℕ) (n : ℕ) → n ≡ 0 → zeros (drop 44 s) ≡ octetsKept n s
-unfolding octetsKept waitingKept
+unfolding octetsKept waitingKept waitingItems every
 octets-none s n e = go (zeros (drop 44 s)) refl ∙ ap (λ (k : ℕ). octetsKept k s) (sym e)
   where
-    go : (b : Bool) → zeros (drop 44 s) ≡ b → b ≡ ifB (zeros (drop 44 s)) (ifEq 0 0 true (every isSoundItem (components [] 0 0))) false
-    go true q = yes _ _ _ q (eq _ _ _ _ refl refl)
+    go : (b : Bool) → zeros (drop 44 s) ≡ b → b ≡ ifB (zeros (drop 44 s)) (every isSoundItem (waitingItems [])) false
+    go true q = yes _ _ _ q (ap (every isSoundItem) (eq _ _ _ _ refl refl))
     go false q = no _ _ _ q refl
 
 pub octets-some : (s : List ℕ) (n : ℕ) (r : Bool) → zeros (drop (44 + n) s) ≡ true → r ≡ waitingKept (take (44 + n - 44) (drop 44 s)) → r ≡ octetsKept n s
@@ -371,8 +371,8 @@ pub record Left (w : List ℕ) (at : ℕ) : Type 0 where
   pub same : waitingKept w ≡ every isSoundItem (items w (length w) turns at)
 
 pub left-start : (w : List ℕ) → (length w ≡ 0 → ⊥) → Left w 0
-unfolding waitingKept components
-left-start w n = record { turns = length w - 0 + 1; enough = omega arith; same = sym (ne _ _ _ _ n refl) }
+unfolding waitingKept waitingItems components
+left-start w n = record { turns = length w - 0 + 1; enough = omega arith; same = ap (every isSoundItem) (sym (ne _ _ _ _ n refl)) }
 
 module _ (w : List ℕ) (at : ℕ) (l : Left w at) (c : Component) (e : c ≡ componentAt w (length w) at) where
   -- the component at `at` first, then what is left with one turn less

@@ -9,6 +9,11 @@ ghost use Rattle.paper.specs.Messages.{uniTag, beginTag, endTag, continueTag, a
 ghost use Rattle.paper.specs.Writing.{tlv, causeAbortOctets};
 ghost use Rattle.writing_octets.specs.Heads.{componentsHead, frontHead};
 ghost use Rattle.writing_octets.specs.Lengths.{Room, elementSize};
+use paper::ABORT_TAG;
+use paper::BEGIN_TAG;
+use paper::CONTINUE_TAG;
+use paper::END_TAG;
+use paper::UNI_TAG;
 
 // A local ID's octets.
 fn id_octets(dialogue: u32) -> [u8; 4]
@@ -72,7 +77,7 @@ pub fn begin_front(out: &mut [u8], at: usize, dialogue: u32, m: usize) -> usize
     ensures within { λ r. ⌜ r + m ≡ at + elementSize (6 + m) ⌝ }
 {
     let own = id_octets(dialogue);
-    let a = writing_octets::write_head(out, at, 0x62, 6 + m);
+    let a = writing_octets::write_head(out, at, BEGIN_TAG, 6 + m);
     write_id(out, a, 0x48, &own)
 }
 
@@ -90,7 +95,7 @@ pub fn continue_front(
     ensures within { λ r. ⌜ r + m ≡ at + elementSize (8 + peerlen + m) ⌝ }
 {
     let own = id_octets(dialogue);
-    let a = writing_octets::write_head(out, at, 0x65, 8 + peerlen + m);
+    let a = writing_octets::write_head(out, at, CONTINUE_TAG, 8 + peerlen + m);
     let b = write_id(out, a, 0x48, &own);
     write_peer(out, b, peer, peerlen)
 }
@@ -111,7 +116,7 @@ pub fn end_front(out: &mut [u8], at: usize, peer: [u8; 4], peerlen: usize, m: us
     ensures is { λ r. ⌜ Wrote (now (out .entry)) at (frontHead endTag (tlv 0x49 (take peerlen peer)) m) r (now (out .exit)) ⌝ }
     ensures within { λ r. ⌜ r + m ≡ at + elementSize (2 + peerlen + m) ⌝ }
 {
-    peer_front(out, at, 0x64, peer, peerlen, m)
+    peer_front(out, at, END_TAG, peer, peerlen, m)
 }
 
 // A user's Abort up to its ID.
@@ -120,7 +125,7 @@ pub fn abort_front(out: &mut [u8], at: usize, peer: [u8; 4], peerlen: usize, m: 
     ensures is { λ r. ⌜ Wrote (now (out .entry)) at (frontHead abortTag (tlv 0x49 (take peerlen peer)) m) r (now (out .exit)) ⌝ }
     ensures within { λ r. ⌜ r + m ≡ at + elementSize (2 + peerlen + m) ⌝ }
 {
-    peer_front(out, at, 0x67, peer, peerlen, m)
+    peer_front(out, at, ABORT_TAG, peer, peerlen, m)
 }
 
 // A Unidirectional's tag and length: it has no ID.
@@ -129,7 +134,7 @@ pub fn uni_front(out: &mut [u8], at: usize, m: usize) -> usize
     ensures is { λ r. ⌜ Wrote (now (out .entry)) at (frontHead uniTag [] m) r (now (out .exit)) ⌝ }
     ensures within { λ r. ⌜ r + m ≡ at + elementSize m ⌝ }
 {
-    writing_octets::write_head(out, at, 0x61, m)
+    writing_octets::write_head(out, at, UNI_TAG, m)
 }
 
 // The transaction sub-layer's Abort, with its cause; peer is the received originating ID.
@@ -138,7 +143,7 @@ pub fn write_cause_abort(out: &mut [u8], at: usize, peer: &[u8], cause: u8) -> u
     ensures is { λ r. ⌜ Wrote (now (out .entry)) at (causeAbortOctets (now (peer .entry)) cause) r (now (out .exit)) ⌝ }
     ensures within { λ r. ⌜ r ≡ at + 7 + length (now (peer .entry)) ⌝ }
 {
-    let a = writing_octets::write_head(out, at, 0x67, 5 + peer.len());
+    let a = writing_octets::write_head(out, at, ABORT_TAG, 5 + peer.len());
     let b = write_id(out, a, 0x49, peer);
     writing_octets::write_single(out, b, 0x4A, cause)
 }

@@ -87,11 +87,6 @@ module _ (kind : ℕ) where
   unfolding between
   between-plain a b = ne kind 3 accepted (ifEq kind 4 byUser []) a (ne kind 4 byUser [] b refl)
 
-  pub between-small : length (between kind) ≤ 12
-  between-small =
-      by-eq {A = ℕ} kind 3 0 0 refl (λ h _. omega (arith, ap length (between-aare h)))
-      (λ a _. by-eq {A = ℕ} kind 4 0 0 refl (λ h _. omega (arith, ap length (between-abrt h))) (λ b _. omega (arith, ap length (between-plain a b))))
-
   module _ (name : List ℕ) where
     pub no-name : kind ≡ 4 → [] ≡ nameOctets kind name
     unfolding nameOctets

@@ -5,6 +5,9 @@ ghost use lib.ListN.{length};
 ghost use lib.Seq.{sets};
 ghost use Rattle.paper.specs.Rows.{signed, startOf, extentOf, dialogueRow, cancelRow, componentRow, rowOctets};
 use paper::Component;
+use paper::NO_ID;
+use paper::NO_PROBLEM;
+use paper::ROW_CANCEL;
 use paper::Row;
 use paper::Run;
 
@@ -15,10 +18,10 @@ fn signed(octet: u32) -> u32
     if octet < 128 {
         return octet + 128;
     }
-    if octet < 256 {
+    if octet < NO_ID {
         return octet - 128;
     }
-    256
+    NO_ID
 }
 
 // Where a component from at to x starts: 0 without a frame.
@@ -71,8 +74,8 @@ pub fn dialogue_row(kind: u32, me: u32, cause: u32, portion: Run, follow: u32) -
     Row {
         kind,
         dialogue: me,
-        invoke: 256,
-        linked: 256,
+        invoke: NO_ID,
+        linked: NO_ID,
         problem: cause,
         start: portion.start as u32,
         length: portion.length as u32,
@@ -86,11 +89,11 @@ pub fn cancel_row(me: u32, id: u8) -> Row
 {
     let a = signed(id as u32);
     Row {
-        kind: 15,
+        kind: ROW_CANCEL,
         dialogue: me,
         invoke: a,
-        linked: 256,
-        problem: 65535,
+        linked: NO_ID,
+        problem: NO_PROBLEM,
         start: 0,
         length: 0,
         follow: 0,

@@ -15,24 +15,17 @@ pieces-requires c κs = search needs
 returns : tie.Need-returns
 returns c = λ lim at i. framed-nested _ _ _ _ _ _ (sym (c .before .before .before .known-tag .ensures) ∙ c .before .before .if1 .taken) (sym i ∙ c .before .if2 .taken) (c .pieces .ensures)
 
+misnested-requires : tie.Need-misnested-requires
+misnested-requires c κs = search needs
+
+returns-2 : tie.Need-returns-2
+returns-2 c = λ lim at i. framed-bad _ _ _ _ _ _ (sym (c .before .before .before .known-tag .ensures) ∙ c .before .before .if1 .taken) (sym i ∙ c .before .if2 .left) (c .misnested .ensures)
+
 single-requires : tie.Need-single-requires
 single-requires c κs = search needs
 
-read-problem-requires : tie.Need-read-problem-requires
-read-problem-requires c κs = search needs
-
 faulty-requires : tie.Need-faulty-requires
 faulty-requires c κs = search needs
-
-returns-2 : tie.Need-returns-2
-returns-2 c = λ lim at i. framed-bad _ _ _ _ _ _ (sym (c .before .before .before .before .before .known-tag .ensures) ∙ c .before .before .before .before .if1 .taken) _ _ (sym i ∙ c .before .before .before .if2 .left)
-    (c .before .before .single .ensures .0) (c .before .read-problem .ensures) (c .faulty .ensures)
-
-single-requires-2 : tie.Need-single-requires-2
-single-requires-2 c κs = search needs
-
-faulty-requires-2 : tie.Need-faulty-requires-2
-faulty-requires-2 c κs = search needs
 
 returns-3 : tie.Need-returns-3
 unfolding framed
@@ -45,10 +38,8 @@ framed-spec =
     known-tag-requires
     pieces-requires
     returns
-    single-requires
-    read-problem-requires
-    faulty-requires
+    misnested-requires
     returns-2
-    single-requires-2
-    faulty-requires-2
+    single-requires
+    faulty-requires
     returns-3)

@@ -19,8 +19,8 @@ returns-2 : tie.Need-returns-2
 unfolding lastPiece
 returns-2 c = ne _ _ _ _ (λ h. omega arith) (eq _ _ _ _ (omega arith) (c .sound .ensures))
 
-one-element-requires : tie.Need-one-element-requires
-one-element-requires c κs = search needs
+frame-ends-requires : tie.Need-frame-ends-requires
+frame-ends-requires c κs = search needs
 
 sound-requires-2 : tie.Need-sound-requires-2
 sound-requires-2 c κs = search needs
@@ -44,7 +44,7 @@ last-piece-spec =
     returns
     sound-requires
     returns-2
-    one-element-requires
+    frame-ends-requires
     sound-requires-2
     returns-3
     faulty-requires-2

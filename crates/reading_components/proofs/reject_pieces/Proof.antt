@@ -1,6 +1,5 @@
 use native.Mathlib.Omega.{arith}
-use mathlib.Core.Path.{refl}
-use Rattle.laws.specs.If.{eq, ne}
+use Rattle.laws.specs.If.{ne}
 use Rattle.paper.specs.Components.{rejectPieces}
 use Rattle.reading_components.specs.Steps.{reject-faulty}
 use borrow.Author.Needs.{needs}
@@ -17,20 +16,14 @@ returns : tie.Need-returns
 unfolding rejectPieces
 returns c = ne _ _ _ _ (λ h. omega arith) (cc)
 
+tag-81-requires : tie.Need-tag-81-requires
+tag-81-requires c κs = search needs
+
 faulty-requires : tie.Need-faulty-requires
 faulty-requires c κs = search needs
 
 returns-2 : tie.Need-returns-2
-returns-2 c = reject-faulty _ _ _ _ _ _ _ (omega arith) (eq _ _ _ _ (omega arith) refl) (c .faulty .ensures)
-
-invoke-problem-requires : tie.Need-invoke-problem-requires
-invoke-problem-requires c κs = search needs
-
-faulty-requires-2 : tie.Need-faulty-requires-2
-faulty-requires-2 c κs = search needs
-
-returns-3 : tie.Need-returns-3
-returns-3 c = reject-faulty _ _ _ _ _ _ _ (omega arith) (ne _ _ _ _ (λ h. omega arith) (c .before .invoke-problem .ensures)) (c .faulty2 .ensures)
+returns-2 c = reject-faulty _ _ _ _ _ _ _ (omega arith) (c .before .tag-81 .ensures) (c .faulty .ensures)
 
 pub reject-pieces-spec : {M : Type 1} → statement M
 reject-pieces-spec =
@@ -39,8 +32,6 @@ reject-pieces-spec =
     problem-at-requires
     sound-requires
     returns
+    tag-81-requires
     faulty-requires
-    returns-2
-    invoke-problem-requires
-    faulty-requires-2
-    returns-3)
+    returns-2)

@@ -12,8 +12,8 @@ returns : tie.Need-returns
 unfolding resultBoth
 returns c = eq _ _ _ _ (omega arith) (c .faulty .ensures)
 
-one-element-requires : tie.Need-one-element-requires
-one-element-requires c κs = search needs
+frame-ends-requires : tie.Need-frame-ends-requires
+frame-ends-requires c κs = search needs
 
 sound-requires : tie.Need-sound-requires
 sound-requires c κs = search needs
@@ -35,7 +35,7 @@ result-both-spec =
     (tie.spec
     faulty-requires
     returns
-    one-element-requires
+    frame-ends-requires
     sound-requires
     returns-2
     faulty-requires-2

@@ -31,14 +31,14 @@ returns-4 : tie.Need-returns-4
 unfolding single
 returns-4 c = (ge _ _ _ _ (omega arith) (eq _ _ _ _ (omega arith) (ne _ _ _ _ (λ h. omega arith) refl)), (λ h. omega arith, omega arith))
 
-add-wide : tie.Need-add-wide
-add-wide c = search needs
+add-number : tie.Need-add-number
+add-number c = search needs
 
-shared-slice-read-wide : tie.Need-shared-slice-read-wide
-shared-slice-read-wide c = search needs
+shared-slice-read-number : tie.Need-shared-slice-read-number
+shared-slice-read-number c = search needs
 
-wide-requires : tie.Need-wide-requires
-wide-requires c κs = search needs
+number-requires : tie.Need-number-requires
+number-requires c κs = search needs
 
 returns-5 : tie.Need-returns-5
 unfolding single
@@ -55,7 +55,7 @@ single-spec =
     add-if4
     shared-slice-read-if4
     returns-4
-    add-wide
-    shared-slice-read-wide
-    wide-requires
+    add-number
+    shared-slice-read-number
+    number-requires
     returns-5)

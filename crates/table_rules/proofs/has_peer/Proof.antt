@@ -1,4 +1,4 @@
-use Rattle.paper.specs.Rules.{hasPeer}
+use Rattle.paper.specs.Dialogues.{hasPeer}
 use Rattle.laws.specs.If.{eq, ne}
 use mathlib.Core.Path.{refl}
 use native.Mathlib.Omega.{arith}

@@ -1,10 +1,12 @@
 use Rattle.table_rules.proofs.Laws.{Left, left-start, left-fault, left-end, left-more}
-use Rattle.paper.specs.Rules.{waitingKept}
+use Rattle.paper.specs.Components.{waitingItems}
+use Rattle.paper.specs.Rules.{isSoundItem, waitingKept}
 use Rattle.laws.specs.If.{eq}
+use Rattle.laws.specs.Lists.{every}
 use lib.ListN.{length}
 use Prim.Native.Nat.{ℕ, _-_, _<_}
 use mathlib.Core.List.{List}
-use mathlib.Core.Path.{refl}
+use mathlib.Core.Path.{refl, ap}
 use native.Mathlib.Omega.{arith}
 use borrow.Author.Needs.{needs}
 use Rattle.table_rules.proofs.waiting_kept.Statement.{statement}
@@ -17,8 +19,8 @@ abbrev μ-loop : tie.MeasureT-loop
 μ-loop w n at₀ at = length w - at
 
 returns : tie.Need-returns Inv-loop μ-loop
-unfolding waitingKept
-returns c = eq _ _ _ _ (omega arith) refl
+unfolding waitingKept waitingItems every
+returns c = ap (every isSoundItem) (eq _ _ _ _ (omega arith) refl)
 
 loop-holds : tie.Need-loop-holds Inv-loop μ-loop
 loop-holds c = (omega arith, left-start (c .before .before .args .w .now) (λ h. c .if1 .left h))
