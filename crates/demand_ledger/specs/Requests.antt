@@ -17,7 +17,7 @@ use Rattle.paper.specs.Elements.{headAt, frameAt, tagEnd}
 use Rattle.paper.specs.Problems.{kindOf, noProblem}
 use Rattle.paper.specs.Components.{tagAt, componentAt, items, components}
 use Rattle.paper.specs.Writing.{Written, octetsOf, joined, beginOctets, continueOctets, endOctets, uniOctets}
-use Rattle.paper.specs.Invocations.{noInvocation, isIdle, idleSlot, inState, toIdle, passed}
+use Rattle.paper.specs.Invocations.{noInvocation, newOne, isIdle, idleSlot, inState, toIdle, passed}
 use Rattle.paper.specs.Messages.{beginTag, continueTag, endTag, uniTag}
 use Rattle.paper.specs.Portions.{Form, aarq, aare, audt, portionBy, Spoken, spokenIn}
 use Rattle.paper.specs.Dialogues.{Place, Request, withControl, freed, invokeRefusal, rejectRefusal, rejectedBy, peerOf, waitingRejects, sentComponents, afterSending, fitsWith, needsPeer, ofClass4, portionRefusal, uniRefusal, abortPortion, abortRefusal, abortMessage, refusal, does}
@@ -26,7 +26,7 @@ use Rattle.paper.specs.Calls.{Table, placeAt, withPlace}
 use Rattle.paper.specs.Rules.{hasPeer}
 use Rattle.paper.specs.Outcome.{spacesOf}
 use Rattle.paper.specs.Contents.{Wire, contentOf}
-use Rattle.paper.specs.Asked.{becomes, newOne, userRejects}
+use Rattle.paper.specs.Asked.{becomes, userRejects}
 use Rattle.paper.specs.Ledger.{Entry, Ledger, find, fit, goes, passes, idles, unmoved, sends, goesOn, ends, noted, sending, aborting, abortSpoken, saidBy, saidOf}
 use Rattle.demand_readback.specs.Written.{Allowed, AllAllowed}
 use Rattle.demand_readback.specs.Contents.{nothing-content, begin-fits, begin-content, continue-fits, continue-content, end-fits, end-content, uni-fits, uni-content, user-abort-fits, user-abort-content}
