@@ -30,7 +30,7 @@ use Rattle.table_laws.specs.Owners.{Owned, owned-is}
 use Rattle.table_laws.specs.Counts.{lowest-is-free}
 use Rattle.demand_kept.specs.Leaves.{whether-eq}
 use Rattle.demand_kept.specs.Acts.{AllReadable, Stays, all-acted-stays, components-readable}
-use Rattle.demand_kept.specs.Steps.{begun-control-fine, continued-fine}
+use Rattle.demand_kept.specs.StepKept.{begun-control-fine, continued-fine}
 use Rattle.table_places.specs.Storing.{Storing, withWaiting}
 use Rattle.reading_components.specs.Bounds.{component-in}
 use Rattle.writing_octets.specs.Lengths.{element-length, length-small}

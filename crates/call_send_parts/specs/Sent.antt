@@ -13,14 +13,13 @@ use Rattle.paper.specs.declared.Reject.{Reject}
 use Rattle.paper.specs.declared.Control.{Control}
 use Rattle.paper.specs.Writing.{rejectOctets}
 use Rattle.paper.specs.Invocations.{allTransmitted}
-use Rattle.paper.specs.Dialogues.{Place, noReject, withState, withoutRejects, allRejects, waitingRejects, rejectsFit, sentComponents, afterSending}
+use Rattle.paper.specs.Dialogues.{Place, noReject, withState, withoutRejects, allRejects, waitingRejects, rejectsFit, sentComponents, afterSending, hasPeer}
 use Rattle.paper.specs.Calls.{placeAt}
 use Rattle.paper.specs.Layout.{flag, view}
-use Rattle.paper.specs.Dialogues.{hasPeer}
 use Rattle.table_laws.specs.Fine.{FineControl, FinePlace}
 use Rattle.table_laws.specs.Kept.{layer-small}
 use Rattle.table_laws.specs.Ready.{Ready}
-use Rattle.table_laws.specs.Keeps.{with-state-fine, without-rejects-fine, transmitted-fine}
+use Rattle.table_laws.specs.Keeps.{with-state-fine, without-rejects-fine, transmitted-fine, sent-only}
 use Rattle.table_places.specs.Storing.{Storing, withWaiting}
 use Rattle.writing_octets.specs.Lengths.{rejectSize, reject-length}
 
@@ -146,15 +145,18 @@ module _ (t : List ℕ) (p : ℕ) (c : Control) (h : Holds t p c) (state : ℕ) 
   after = allTransmitted (withState c state)
 
   pub after-storing : Sendable c state → Storing 0 t p (controlAfter c state fits)
-  unfolding allTransmitted ifB
+  unfolding ifB
   after-storing (g, m, e) = go fits
     where
       stored : FineControl after
       stored = transmitted-fine (withState c state) (with-state-fine c (holds-fine h) state m e)
 
+      used : after .state ≡ 0 → ⊥
+      used z = omega (arith, z, ap (λ (d : Control). d .state) (sent-only c state))
+
       go : (b : Bool) → Storing 0 t p (controlAfter c state b)
-      go true = record { ready = h .ready; small = h .small; told = h .told; control = without-rejects-fine after stored; state = λ z. omega (arith, z) }
-      go false = record { ready = h .ready; small = h .small; told = h .told; control = stored; state = λ z. omega (arith, z) }
+      go true = record { ready = h .ready; small = h .small; told = h .told; control = without-rejects-fine after stored; state = used }
+      go false = record { ready = h .ready; small = h .small; told = h .told; control = stored; state = used }
 
   pub after-is : withWaiting (controlAfter c state fits) [] ≡ afterSending (placeAt (view t) p) fits state
   unfolding afterSending

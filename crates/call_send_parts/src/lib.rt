@@ -3,6 +3,8 @@ use paper::ABRT;
 use paper::Component;
 use paper::Control;
 use paper::DIALOGUE_OPEN;
+use paper::MOST_WAITING;
+use paper::NO_FAULT;
 use paper::Reject;
 ghost use mathlib.Core.Path.{_≡_};
 ghost use Prim.Native.Nat.{_+_, _<_, _≤_};
@@ -18,12 +20,6 @@ ghost use Rattle.writing_octets.specs.Lengths.{Room};
 ghost use Rattle.call_send_parts.specs.Refused.{class4, isTold};
 ghost use Rattle.call_send_parts.specs.Sent.{Holds, Sends, Sendable, controlAfter};
 
-fn wide(x: u8) -> usize
-    ensures { λ r. ⌜ r ≡ x ⌝ }
-{
-    x as usize
-}
-
 // The octets of the waiting rejects.
 fn rejects_size(c: Control) -> usize
     requires { ⌜ FineControl c ⌝ }
@@ -31,7 +27,7 @@ fn rejects_size(c: Control) -> usize
     ensures within { λ r. ⌜ r ≤ 64 ⌝ }
 {
     let l = c.rejects;
-    let n = wide(c.count);
+    let n = laws::wide(c.count);
     let mut sum: usize = 0;
     let mut i: usize = 0;
     while i < n {
@@ -48,7 +44,7 @@ fn write_rejects(out: &mut [u8], at: usize, c: Control) -> usize
     ensures { λ r. ⌜ Wrote (now (out .entry)) at (waitingRejects c) r (now (out .exit)) ⌝ }
 {
     let l = c.rejects;
-    let n = wide(c.count);
+    let n = laws::wide(c.count);
     let mut e = at;
     let mut i: usize = 0;
     while i < n {
@@ -72,7 +68,7 @@ pub fn sent_of(t: &[u8], p: usize, c: Control, q: usize) -> Sent
 {
     let w = table_places::waiting_length(t, p);
     let r = rejects_size(c);
-    if q + w + r <= 240 {
+    if q + w + r <= MOST_WAITING {
         return Sent {
             fits: true,
             length: w + r,
@@ -141,7 +137,7 @@ pub fn leave_at(t: &mut [u8], p: usize, c: Control, state: u8, fits: bool)
 fn of_class4(c: Control, k: Component) -> bool
     ensures { λ r. ⌜ r ≡ class4 c k ⌝ }
 {
-    if k.fault != 3 {
+    if k.fault != NO_FAULT {
         return false;
     }
     if k.tag != 0xA1 {
@@ -235,10 +231,10 @@ pub fn abort_refusal(portion: &[u8]) -> u32
     ensures { λ r. ⌜ r ≡ abortRefusal (now (portion .entry)) ⌝ }
 {
     if is_abort(portion) {
-        if portion.len() > 240 {
+        if portion.len() > MOST_WAITING {
             return 12;
         }
-        if abort_size(portion) > 240 {
+        if abort_size(portion) > MOST_WAITING {
             return 12;
         }
         return 0;

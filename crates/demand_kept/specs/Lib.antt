@@ -5,9 +5,10 @@ pub mod Listed
 pub mod Waiting
 pub mod Portions
 pub mod Requests
+pub mod Shapes
 pub mod Counted
 pub mod Shared
-pub mod Steps
+pub mod StepKept
 pub mod Fresh
 pub mod Refusals
 pub mod Tables

@@ -1,5 +1,5 @@
 -- WHAT A REQUEST OR TIMER DOES TO ITS DIALOGUE KEEPS THE RULES (01, "Dialogue states"). Assumes nothing.
-use mathlib.Core.Path.{_≡_, refl, sym, subst, _∙_}
+use mathlib.Core.Path.{_≡_, refl, sym, ap, subst, _∙_}
 use mathlib.Core.Bool.{Bool, true, false}
 use mathlib.Core.List.{List, [], _++_}
 use Prim.Native.Nat.{ℕ, _+_, _≤_, _<_}
@@ -11,10 +11,10 @@ use Rattle.paper.specs.Problems.{kindOf}
 use Rattle.paper.specs.Components.{noID}
 use Rattle.paper.specs.Writing.{invokeOctets, resultOctets, errorOctets, rejectOctets, Written, octetsOf}
 use Rattle.paper.specs.Invocations.{invocationOf, stateOf, toState, toIdle, passed, allTransmitted, mayReject}
-use Rattle.paper.specs.Dialogues.{Place, Request, Invoke, Result, Error, UserReject, Cancel, Begin, Continue, End, Prearranged, Abort, Unidirectional, Timeout, RejectTimeout, NoReaction, hasPeer, freed, withControl, withState, withoutRejects, overfull, invokeRefusal, resultRefusal, errorRefusal, rejectRefusal, rejectedBy, afterSending, needsOpen, needsPeer, refusal, does}
+use Rattle.paper.specs.Dialogues.{Place, Request, Invoke, Result, Error, UserReject, Cancel, Begin, Continue, End, Prearranged, Abort, Unidirectional, Timeout, RejectTimeout, NoReaction, hasPeer, freed, withControl, withState, withoutRejects, overfull, invokeRefusal, resultRefusal, errorRefusal, rejectRefusal, rejectedBy, afterSending, needsOpen, needsPeer, refusal, does, shapeOf}
 use Rattle.demand_readback.specs.Written.{ResultTag, Allowed}
 use Rattle.table_laws.specs.Fine.{FineControl, FinePlace}
-use Rattle.table_laws.specs.Keeps.{begin-peer, continue-peer, passed-fine, to-state-fine, to-idle-fine, transmitted-fine, with-state-fine, without-rejects-fine}
+use Rattle.table_laws.specs.Keeps.{begin-peer, continue-peer, passed-fine, to-state-fine, to-idle-fine, transmitted-fine, sent-only, with-state-fine, without-rejects-fine}
 use Rattle.demand_kept.specs.Acts.{Stays, unchanged}
 use Rattle.demand_kept.specs.Waiting.{kept-none, waiting-append, written-kept}
 use Rattle.demand_kept.specs.Portions.{first-none, room-told}
@@ -146,12 +146,15 @@ module _ (x : Place) (f : FinePlace x) (used : x .control .state ≡ 0 → ⊥) 
 
   -- A SENDING, with or without the rejects, to a state with a peer as before
   sent-goes-on : (fits : Bool) (state : ℕ) → 0 < state → state < 5 → hasPeer state ≡ hasPeer (x .control .state) → GoesOn x (afterSending x fits state)
-  unfolding afterSending allTransmitted
+  unfolding afterSending
   sent-goes-on fits state a b e =
       let c : Control = allTransmitted (withState (x .control) state) in
       let g : FineControl c = transmitted-fine (withState (x .control) state) (with-state-fine (x .control) (f .control) state b e) in
+      let o = sent-only (x .control) state in
+      let n : 0 < c .state = omega (arith, ap (λ (d : Control). d .state) o) in
+      let s : c .service ≡ x .control .service = ap (λ (d : Control). d .service) o in
       by-b {r = afterSending x fits state .control} _ _ _ refl
-      (λ h z. left (withoutRejects c) z (without-rejects-fine c g) a refl) (λ h z. left c z g a refl)
+      (λ h z. left (withoutRejects c) z (without-rejects-fine c g) n s) (λ h z. left c z g n s)
     where
       left : (c : Control) → afterSending x fits state .control ≡ c → FineControl c → 0 < c .state → c .service ≡ x .control .service → GoesOn x (afterSending x fits state)
       left c z g a s = subst (λ (d : Control). GoesOn x (record { control = d; waiting = [] })) (sym z)
@@ -198,20 +201,7 @@ passed-taken x class (Written.Reject id p) w e = reject-told x id p (omega arith
 
 -- those that free the place
 abbrev pub frees : Request → Bool
-frees (Invoke id linked class op par) = false
-frees (Result tag id op par) = false
-frees (Error id err par) = false
-frees (UserReject id p) = false
-frees (Cancel id) = false
-frees (Begin name info) = false
-frees (Continue name info) = false
-frees (End name info) = true
-frees Prearranged = true
-frees (Abort given) = true
-frees (Unidirectional name info) = true
-frees (Timeout id) = false
-frees (RejectTimeout id) = false
-frees NoReaction = true
+frees r = shapeOf r .frees
 
 -- what one leaves: a freed place, or the dialogue
 abbrev pub Leaves : Bool → Place → Place → Type 0

@@ -11,7 +11,7 @@ use Rattle.paper.specs.Rules.{rules}
 use Rattle.paper.specs.Outcome.{Lent, Outcome, standing, spacesFor, shown, outcome, freshAnswer, freshOutcome}
 use Rattle.table_laws.specs.Fine.{Fine}
 use Rattle.table_laws.specs.Ready.{Ready, encode-rules, encode-ready}
-use Rattle.demand_kept.specs.Steps.{WellFormed, step-kept}
+use Rattle.demand_kept.specs.StepKept.{WellFormed, step-kept}
 use Rattle.demand_kept.specs.Fresh.{fresh-fine}
 
 -- a call leaves a table that keeps the rules

@@ -8,5 +8,5 @@ pub mod Portions
 pub mod Read
 pub mod Requests
 pub mod Received
-pub mod Steps
+pub mod StepPlayed
 pub mod Homes

@@ -15,12 +15,12 @@ use Rattle.paper.specs.declared.Control.{Control}
 use Rattle.paper.specs.declared.Acted.{Acted}
 use Rattle.paper.specs.Problems.{problem, kindOf, noProblem}
 use Rattle.paper.specs.Components.{notLastTag}
-use Rattle.paper.specs.Invocations.{pending, wait, rejecting, noInvocation, isOpen, slotOf, idleSlot, invocationOf, stateOf, inState, toState, toIdle, passed, notLastShown, transmitted, allTransmitted, acted, rejected, takes, answerKind, answerProblem, answersSent, answers, invokes, released, rejectKind, rejects, faultyReject, faults, act, mayReject}
-use Rattle.paper.specs.Asked.{releases, wasShown, faultHeard, rejectHeard, heardOf}
+use Rattle.paper.specs.Invocations.{pending, sent, wait, rejecting, noInvocation, wasShown, isOpen, slotOf, idleSlot, invocationOf, stateOf, inState, toState, toIdle, allIdle, passed, notLastShown, transmitted, rejectingIDs, allTransmitted, acted, rejected, takes, answerKind, answerProblem, answersSent, answers, invokes, released, rejectKind, rejects, faultyReject, faults, act, mayReject}
+use Rattle.paper.specs.Asked.{releases, faultHeard, rejectHeard, heardOf}
 use Rattle.paper.specs.Dialogues.{rejectedBy}
 use Rattle.table_laws.specs.Fine.{FineInvocations, FineControl}
 use Rattle.table_laws.specs.Invocations.{At, found-open, opens, isOpen-ne, idle-free, idle-slot, none-same, at-transmitted}
-use Rattle.table_laws.specs.Keeps.{there}
+use Rattle.table_laws.specs.Keeps.{there, to-idle-fine, sent-fine}
 use Rattle.demand_kept.specs.Leaves.{whether-eq}
 use Rattle.demand_kept.specs.Acts.{Readable}
 
@@ -151,20 +151,47 @@ set-lookup l id i v o u b k =
         go true e = other-shut k x (λ m q. n (sym q ∙ opens id x e .1))
         go false e = ap (isOpen k) (w e) ∙ none-shut k
 
--- TRANSMITTED, each goes its way and keeps its ID, or goes to Idle
-module _ (k : ℕ) (v : Invocation) where
-  by-transmitted : {P : Type 0} → (isOpen k (transmitted v) ≡ isOpen k v → P) → (transmitted v ≡ noInvocation → P) → P
-  unfolding transmitted
-  by-transmitted a b =
-      by-eq {r = transmitted v} _ _ _ _ refl
-      (λ e z. a (ap (isOpen k) z ∙ sym (isOpen-ne k (inState v 2) (λ q. omega arith)) ∙ isOpen-ne k v (λ q. omega arith)))
-      (λ n z. by-eq _ _ _ _ z (λ e z. b z) (λ m z. a (ap (isOpen k) z)))
+-- TRANSMITTED, each keeps its ID
+same-open : (k : ℕ) (v : Invocation) → isOpen k (transmitted v) ≡ isOpen k v
+unfolding transmitted
+same-open k v =
+    by-eq {r = transmitted v} _ _ _ _ refl
+    (λ e z. ap (isOpen k) z ∙ sym (isOpen-ne k (inState v sent) (λ q. omega arith)) ∙ isOpen-ne k v (λ q. omega arith)) (λ n z. ap (isOpen k) z)
 
-  transmitted-shut : isOpen k v ≡ false → isOpen k (transmitted v) ≡ false
-  transmitted-shut e = by-transmitted (λ z. z ∙ e) (λ z. ap (isOpen k) z ∙ none-shut k)
+transmitted-under : (k : ℕ) (v : Invocation) → Under k v → Under k (transmitted v)
+transmitted-under k v u e = ap transmitted (u (sym (same-open k v) ∙ e)) ∙ none-same
 
-  transmitted-under : Under k v → Under k (transmitted v)
-  transmitted-under u e = by-transmitted (λ z. ap transmitted (u (sym z ∙ e)) ∙ none-same) (λ z. z)
+-- SOME GO TO IDLE: what is under an ID afterwards
+module _ (k : ℕ) where
+  abbrev idled : List ℕ → Invocation → Invocation
+  idled [] v = v
+  idled (id ∷ ids) v = idled ids (ifEq k id noInvocation v)
+
+  idled-none : (ids : List ℕ) → idled ids noInvocation ≡ noInvocation
+  idled-none [] = refl
+  idled-none (id ∷ ids) = ap (idled ids) (by-eq {r = ifEq k id noInvocation noInvocation} _ _ _ _ refl (λ e z. z) (λ e z. z)) ∙ idled-none ids
+
+  -- one in Rejecting, and one that isn't
+  rejecting-gone : (l : List Invocation) (i : ℕ) (v : Invocation) → At l i .state ≡ rejecting → At l i .id ≡ k → idled (rejectingIDs l) v ≡ noInvocation
+  unfolding rejectingIDs
+  rejecting-gone [] i v e q = absurd (omega arith)
+  rejecting-gone (x ∷ l) zero v e q =
+      sym (ap (λ (ids : List ℕ). idled ids v) (eq _ _ _ _ e refl)) ∙ ap (idled (rejectingIDs l)) (sym (eq _ _ _ _ (sym q) refl)) ∙ idled-none (rejectingIDs l)
+  rejecting-gone (x ∷ l) (suc i) v e q =
+      by-eq {r = rejectingIDs (x ∷ l)} _ _ _ _ refl
+      (λ a z. ap (λ (ids : List ℕ). idled ids v) z ∙ rejecting-gone l i _ e q) (λ a z. ap (λ (ids : List ℕ). idled ids v) z ∙ rejecting-gone l i v e q)
+
+  others-stay : (l : List Invocation) (v : Invocation) → ((i : ℕ) → At l i .state ≡ rejecting → At l i .id ≡ k → ⊥) → idled (rejectingIDs l) v ≡ v
+  unfolding rejectingIDs
+  others-stay [] v h = refl
+  others-stay (x ∷ l) v h =
+      by-eq {r = rejectingIDs (x ∷ l)} _ _ _ _ refl
+      (λ a z. ap (λ (ids : List ℕ). idled ids v) z ∙ ap (idled (rejectingIDs l)) (sym (ne _ _ _ _ (λ q. h 0 a (sym q)) refl)) ∙ others-stay l v (λ i. h (suc i)))
+      (λ a z. ap (λ (ids : List ℕ). idled ids v) z ∙ others-stay l v (λ i. h (suc i)))
+
+-- what a sending makes of one: Rejecting to Idle, Pending to Sent
+unfoldable pub sentAs : Invocation → Invocation
+sentAs v = ifEq (v .state) rejecting noInvocation (transmitted v)
 
 -- "User reject of a result: Wait, or Sent ..; of an error: Wait": of one in use
 rejectable : (kind : ℕ) (v : Invocation) → (kind ≡ 1 → ⊥) → mayReject kind v ≡ true → v .state ≡ 0 → ⊥
@@ -220,17 +247,6 @@ module _ (c : Control) (f : FineControl c) where
       )
       (open-under id _ (λ q. omega arith) refl) (λ b. absurd (omega arith))
 
-  pub transmitted-lookup : (k : ℕ) → invocationOf (allTransmitted c .invocations) k ≡ transmitted (ours k)
-  unfolding allTransmitted invocationOf
-  transmitted-lookup k =
-      let l : List Invocation = c .invocations in
-      let o = found-only k l (f .invocations) in
-      looked k (map transmitted l) (slotOf l k) (
-        subst (Under k) (sym (at-transmitted l (slotOf l k))) (transmitted-under k _ (o .0)),
-        λ j n. ap (isOpen k) (at-transmitted l j) ∙ transmitted-shut k _ (o .1 j n),
-      )
-      ∙ at-transmitted l (slotOf l k)
-
   pub rejected-lookup : (id p : ℕ) → mayReject (kindOf p) (ours id) ≡ true
       → Goes (rejectedBy c id p) id (ifEq (kindOf p) 1 (ours id) (inState (ours id) rejecting))
   unfolding rejectedBy
@@ -243,6 +259,43 @@ module _ (c : Control) (f : FineControl c) where
   unfolding released releases
   released-lookup id =
       by-eq {r = released c id} _ _ _ _ refl (λ e z. goes id z (eq _ _ _ _ e refl) (idle-lookup id)) (λ n z. goes id z (ne _ _ _ _ n refl) (same-lookup id))
+
+-- A SENDING
+all-idle-lookup : (k : ℕ) (ids : List ℕ) (c : Control) → FineControl c → invocationOf (allIdle c ids .invocations) k ≡ idled k ids (invocationOf (c .invocations) k)
+unfolding allIdle
+all-idle-lookup k [] c f = refl
+all-idle-lookup k (id ∷ ids) c f = all-idle-lookup k ids (toIdle c id) (to-idle-fine c f id) ∙ ap (idled k ids) (idle-lookup c f id k)
+
+module _ (c : Control) (f : FineControl c) (k : ℕ) where
+  abbrev slots : List Invocation
+  slots = c .invocations
+
+  pending-lookup : invocationOf (map transmitted slots) k ≡ transmitted (invocationOf slots k)
+  unfolding invocationOf
+  pending-lookup =
+      let o = found-only k slots (f .invocations) in
+      looked k (map transmitted slots) (slotOf slots k) (
+        subst (Under k) (sym (at-transmitted slots (slotOf slots k))) (transmitted-under k _ (o .0)),
+        λ j n. ap (isOpen k) (at-transmitted slots j) ∙ same-open k _ ∙ o .1 j n,
+      )
+      ∙ at-transmitted slots (slotOf slots k)
+
+  idled-is : idled k (rejectingIDs slots) (transmitted (invocationOf slots k)) ≡ sentAs (invocationOf slots k)
+  unfolding sentAs invocationOf
+  idled-is =
+      let o = found-only k slots (f .invocations) in
+      by-eq {r = sentAs (invocationOf slots k)} _ _ _ _ refl
+      (λ e z. rejecting-gone k slots (slotOf slots k) _ e (looked-open k slots (λ q. omega arith)) ∙ sym z)
+      (λ e z. others-stay k slots _ (λ i a q. other o e i a q) ∙ sym z)
+    where
+      other : Only k slots (slotOf slots k) → (At slots (slotOf slots k) .state ≡ rejecting → ⊥) → (i : ℕ) → At slots i .state ≡ rejecting → At slots i .id ≡ k → ⊥
+      other o e i a q =
+          by-eq {A = ℕ} i (slotOf slots k) 0 0 refl (λ j _. e (ap (λ (j : ℕ). At slots j .state) (sym j) ∙ a))
+          (λ j _. true-false (sym (sym (isOpen-ne k (At slots i) (λ z. omega arith)) ∙ eq-eqb (At slots i .id) k q) ∙ o .1 i j))
+
+  pub transmitted-lookup : invocationOf (allTransmitted c .invocations) k ≡ sentAs (invocationOf slots k)
+  unfolding allTransmitted
+  transmitted-lookup = all-idle-lookup k (rejectingIDs slots) _ (sent-fine c f) ∙ ap (idled k (rejectingIDs slots)) pending-lookup ∙ idled-is
 
 -- "A7 stays Sent; A2, A3 to Wait", by what a class takes
 module _ (class tag : ℕ) where

@@ -9,12 +9,13 @@ use Rattle.laws.specs.Lists.{firstAt}
 use Rattle.paper.specs.declared.Invocation.{Invocation}
 use Rattle.paper.specs.declared.Control.{Control}
 use Rattle.paper.specs.Components.{Item}
-use Rattle.paper.specs.Invocations.{noInvocation, isOpen, slotOf, invocationOf, transmitted, allTransmitted, act}
+use Rattle.paper.specs.Invocations.{rejecting, noInvocation, isOpen, slotOf, invocationOf, transmitted, allTransmitted, act}
 use Rattle.paper.specs.Rows.{componentRow, allActed, componentRows}
 use Rattle.paper.specs.Asked.{oursOf, becomes, allSent, heardOf, heardAll}
 use Rattle.table_laws.specs.Fine.{FineInvocations, FineControl}
+use Rattle.table_laws.specs.Invocations.{none-same}
 use Rattle.demand_kept.specs.Acts.{AllReadable, act-stays}
-use Rattle.demand_ledger.specs.Lookups.{Turns, looked-open, looked-idle, transmitted-lookup, act-lookup}
+use Rattle.demand_ledger.specs.Lookups.{Turns, looked-open, looked-idle, sentAs, transmitted-lookup, act-lookup}
 
 -- each in use, under an ID of its own
 abbrev pub Apart : List Invocation → Type 0
@@ -78,43 +79,47 @@ module _ (id : ℕ) (v : Invocation) (o : Of id v) where
       (λ h q. subst Apart (sym q) (becomes-other (w .id) h l ∙ a .0, a .1, becomes-apart l (a .2)))
 
 -- A SENDING
-none-sent : transmitted noInvocation ≡ noInvocation
-unfolding transmitted
-none-sent = sym (ne _ _ _ _ (λ z. omega arith) (ne _ _ _ _ (λ z. omega arith) refl))
+none-sent : sentAs noInvocation ≡ noInvocation
+unfolding sentAs
+none-sent = sym (ne _ _ _ _ (λ z. omega arith) (sym none-same))
 
-sent-kept : (v : Invocation) → (v .state ≡ 0 → ⊥) → (v .state ≡ 4 → ⊥) → (transmitted v .id ≡ v .id) × (transmitted v .state ≡ 0 → ⊥)
+sent-kept : (v : Invocation) → (v .state ≡ 0 → ⊥) → (transmitted v .id ≡ v .id) × (transmitted v .state ≡ 0 → ⊥)
 unfolding transmitted
-sent-kept v n m =
+sent-kept v n =
     by-eq {r = transmitted v} _ _ _ _ refl
     (λ a z. (ap (λ (x : Invocation). x .id) z, λ q. omega (arith, ap (λ (x : Invocation). x .state) z, q)))
-    (λ a z. by-eq _ _ _ _ z (λ b z. absurd (m b)) (λ b z. (ap (λ (x : Invocation). x .id) z, λ q. n (sym (ap (λ (x : Invocation). x .state) z) ∙ q))))
+    (λ a z. (ap (λ (x : Invocation). x .id) z, λ q. n (sym (ap (λ (x : Invocation). x .state) z) ∙ q)))
 
-sent-gone : (v : Invocation) → v .state ≡ 4 → transmitted v ≡ noInvocation
-unfolding transmitted
-sent-gone v h = sym (ne _ _ _ _ (λ z. omega arith) (eq _ _ _ _ h refl))
+sent-gone : (v : Invocation) → v .state ≡ rejecting → sentAs v ≡ noInvocation
+unfolding sentAs
+sent-gone v h = sym (eq _ _ _ _ h refl)
 
-sent-ours : (l : List Invocation) → Apart l → (k : ℕ) → oursOf (allSent l) k ≡ transmitted (oursOf l k)
+sent-on : (v : Invocation) → (v .state ≡ rejecting → ⊥) → sentAs v ≡ transmitted v
+unfolding sentAs
+sent-on v h = sym (ne _ _ _ _ h refl)
+
+sent-ours : (l : List Invocation) → Apart l → (k : ℕ) → oursOf (allSent l) k ≡ sentAs (oursOf l k)
 unfolding allSent
-sent-ours [] a k = none-ours k ∙ sym (ap transmitted (none-ours k) ∙ none-sent)
+sent-ours [] a k = none-ours k ∙ sym (ap sentAs (none-ours k) ∙ none-sent)
 sent-ours (v ∷ l) a k =
     by-eq {r = allSent (v ∷ l)} _ _ _ _ refl
     (λ h q. ap (λ (m : List Invocation). oursOf m k) q ∙ sent-ours l (a .2) k
     ∙ by-eq {A = ℕ} (v .id) k 0 0 refl
-    (λ i _. ap transmitted (ap (oursOf l) (sym i) ∙ a .0) ∙ none-sent ∙ sym (ap transmitted (ours-here v l k i) ∙ sent-gone v h))
-    (λ i _. ap transmitted (sym (ours-on v l k i))))
-    (λ h q. let w = sent-kept v (a .1) h in
+    (λ i _. ap sentAs (ap (oursOf l) (sym i) ∙ a .0) ∙ none-sent ∙ sym (ap sentAs (ours-here v l k i) ∙ sent-gone v h))
+    (λ i _. ap sentAs (sym (ours-on v l k i))))
+    (λ h q. let w = sent-kept v (a .1) in
     ap (λ (m : List Invocation). oursOf m k) q
     ∙ by-eq {A = ℕ} (v .id) k 0 0 refl
-    (λ i _. ours-here (transmitted v) (allSent l) k (w .0 ∙ i) ∙ ap transmitted (sym (ours-here v l k i)))
-    (λ i _. ours-on (transmitted v) (allSent l) k (λ j. i (sym (w .0) ∙ j)) ∙ sent-ours l (a .2) k ∙ ap transmitted (sym (ours-on v l k i))))
+    (λ i _. ours-here (transmitted v) (allSent l) k (w .0 ∙ i) ∙ sym (sent-on v h) ∙ ap sentAs (sym (ours-here v l k i)))
+    (λ i _. ours-on (transmitted v) (allSent l) k (λ j. i (sym (w .0) ∙ j)) ∙ sent-ours l (a .2) k ∙ ap sentAs (sym (ours-on v l k i))))
 
 sent-apart : (l : List Invocation) → Apart l → Apart (allSent l)
 unfolding allSent
 sent-apart [] a = tt
 sent-apart (v ∷ l) a =
     by-eq {r = allSent (v ∷ l)} _ _ _ _ refl (λ h q. subst Apart (sym q) (sent-apart l (a .2)))
-    (λ h q. let w = sent-kept v (a .1) h in
-    subst Apart (sym q) (sent-ours l (a .2) (transmitted v .id) ∙ ap (λ (k : ℕ). transmitted (oursOf l k)) (w .0) ∙ ap transmitted (a .0) ∙ none-sent, w .1, sent-apart l (a .2)))
+    (λ h q. let w = sent-kept v (a .1) in
+    subst Apart (sym q) (sent-ours l (a .2) (transmitted v .id) ∙ ap (λ (k : ℕ). sentAs (oursOf l k)) (w .0) ∙ ap sentAs (a .0) ∙ none-sent, w .1, sent-apart l (a .2)))
 
 -- THE SAME INVOCATIONS, in the slots and in the ledger's list
 pub record Ours (slots l : List Invocation) : Type 0 where
@@ -143,7 +148,7 @@ ours-turned {slots} {m} {l} id v o f t = record {
     of = subst (Of id) own (record { named = looked-open id m; unused = looked-idle id m f })
 
 pub ours-sent : (c : Control) → FineControl c → (l : List Invocation) → Ours (c .invocations) l → Ours (allTransmitted c .invocations) (allSent l)
-ours-sent c f l o = record { same = λ k. transmitted-lookup c f k ∙ ap transmitted (o .same k) ∙ sym (sent-ours l (o .apart) k); apart = sent-apart l (o .apart) }
+ours-sent c f l o = record { same = λ k. transmitted-lookup c f k ∙ ap sentAs (o .same k) ∙ sym (sent-ours l (o .apart) k); apart = sent-apart l (o .apart) }
 
 -- THE COMPONENTS OF A MESSAGE, each by its row
 pub ours-heard : (me room : ℕ) → room ≤ 8 → (is : List Item) → AllReadable is → (c : Control) → FineControl c → (l : List Invocation) → Ours (c .invocations) l

@@ -35,7 +35,7 @@ use Rattle.table_laws.specs.Counts.{lowest-is-free}
 use Rattle.table_laws.specs.Owners.{Owned, owned-is}
 use Rattle.demand_kept.specs.Counted.{row-ended}
 use Rattle.demand_kept.specs.Shared.{lowest-there}
-use Rattle.demand_kept.specs.Steps.{items-readable, origin-length, begun-control-fine, continued-fine}
+use Rattle.demand_kept.specs.StepKept.{items-readable, origin-length, begun-control-fine, continued-fine}
 use Rattle.demand_ledger.specs.Ours.{Ours, ours-none, ours-heard}
 use Rattle.demand_ledger.specs.Agrees.{waits, Holds, At, Agrees, holds-owns, owned-found, agrees-altered, agrees-ended, agrees-begun}
 use Rattle.demand_ledger.specs.Acting.{all-left}

@@ -14,7 +14,7 @@ use Rattle.paper.specs.declared.Control.{Control}
 use Rattle.paper.specs.Sizes.{placeOf, idOctets}
 use Rattle.paper.specs.Problems.{kindOf, noProblem}
 use Rattle.paper.specs.Writing.{Written, octetsOf, joined, beginOctets, continueOctets, endOctets, uniOctets}
-use Rattle.paper.specs.Invocations.{noInvocation, isIdle, idleSlot, inState, toIdle, passed}
+use Rattle.paper.specs.Invocations.{noInvocation, newOne, isIdle, idleSlot, inState, toIdle, passed}
 use Rattle.paper.specs.Messages.{beginTag, continueTag, endTag, uniTag}
 use Rattle.paper.specs.Portions.{Form, aarq, aare, audt, portionBy, Spoken, spokenIn}
 use Rattle.paper.specs.Dialogues.{Place, Request, withControl, freed, invokeRefusal, rejectRefusal, rejectedBy, peerOf, waitingRejects, sentComponents, afterSending, fitsWith, hasPeer, needsPeer, portionRefusal, uniRefusal, abortPortion, abortRefusal, abortMessage, refusal, does}
@@ -22,7 +22,7 @@ use Rattle.paper.specs.Dialogues.Request.{Invoke, Result, Error, UserReject, Ca
 use Rattle.paper.specs.Calls.{Table, placeAt, withPlace}
 use Rattle.paper.specs.Outcome.{spacesOf}
 use Rattle.paper.specs.Contents.{Wire, contentOf}
-use Rattle.paper.specs.Asked.{becomes, newOne, userRejects}
+use Rattle.paper.specs.Asked.{becomes, userRejects}
 use Rattle.paper.specs.Ledger.{Entry, Ledger, find, fit, goes, passes, idles, unmoved, sends, goesOn, ends, noted, sending, aborting, abortSpoken, saidBy, saidOf}
 use Rattle.demand_readback.specs.Written.{Allowed, AllAllowed}
 use Rattle.demand_readback.specs.Contents.{nothing-content, begin-fits, begin-content, continue-fits, continue-content, end-fits, end-content, uni-fits, uni-content, user-abort-fits, user-abort-content}

@@ -11,12 +11,12 @@ use Rattle.laws.specs.If.{yes, no, by-b}
 use Rattle.paper.specs.declared.Reject.{Reject}
 use Rattle.paper.specs.declared.Control.{Control}
 use Rattle.paper.specs.Writing.{Written, octetsOf, joined}
-use Rattle.paper.specs.Dialogues.{Place, noReject, allRejects, waitingRejects, rejectsFit, sentComponents, afterSending, fitsWith, withState, withoutRejects, peerOf}
-use Rattle.paper.specs.Invocations.{allTransmitted}
+use Rattle.paper.specs.Dialogues.{Place, noReject, allRejects, waitingRejects, rejectsFit, sentComponents, afterSending, fitsWith, withoutRejects, peerOf}
 use Rattle.paper.specs.Asked.{allSent}
 use Rattle.paper.specs.Ledger.{Entry, fit, goes, stays, sends}
 use Rattle.demand_readback.specs.Written.{AllAllowed}
 use Rattle.table_laws.specs.Fine.{FineReject, FinePlace}
+use Rattle.table_laws.specs.Keeps.{sent-only}
 use Rattle.demand_ledger.specs.Ours.{Ours, ours-sent}
 use Rattle.demand_ledger.specs.Agrees.{rejectOf, waits, Is}
 
@@ -69,13 +69,14 @@ module _ (e : Entry) (x : Place) (w : Is e x) where
 
   -- its entry afterwards
   pub sent-is : FinePlace x → (state : ℕ) (portion : List ℕ) → Is (sends state portion e) (afterSending x (fitsWith x portion) state)
-  unfolding afterSending allTransmitted stays joined
+  unfolding afterSending stays joined
   sent-is f state portion =
       let ours = ours-sent (x .control) (f .control) (e .invocations) (w .ours) in
       let fits = fit-is (length portion) in
+      let o = sent-only (x .control) state in
       by-b {r = afterSending x (fitsWith x portion) state .control} _ _ _ refl
-      (λ b z. left (withoutRejects (allTransmitted (withState (x .control) state))) z refl refl refl (yes _ _ _ (sym fits ∙ b) refl) ours)
-      (λ b z. left (allTransmitted (withState (x .control) state)) z refl refl refl (w .rejects ∙ no _ _ _ (sym fits ∙ b) refl) ours)
+      (λ b z. left _ (z ∙ ap withoutRejects o) refl refl refl (yes _ _ _ (sym fits ∙ b) refl) ours)
+      (λ b z. left _ (z ∙ o) refl refl refl (w .rejects ∙ no _ _ _ (sym fits ∙ b) refl) ours)
     where
       left : (c : Control) → afterSending x (fitsWith x portion) state .control ≡ c → c .state ≡ state → c .service ≡ x .control .service → peerOf c ≡ peerOf (x .control)
           → waits c ≡ stays e (fit e (length portion)) → Ours (c .invocations) (allSent (e .invocations)) → Is (sends state portion e) (afterSending x (fitsWith x portion) state)
@@ -83,8 +84,10 @@ module _ (e : Entry) (x : Place) (w : Is e x) where
           (record { state = a; service = b ∙ w .service; peer = p ∙ w .peer; passed = refl; allowed = tt; rejects = q; ours = ours })
 
   pub sent-turn : (fits : Bool) (state : ℕ) → afterSending x fits state .control .turn ≡ x .control .turn
-  unfolding afterSending allTransmitted
-  sent-turn fits state = by-b {r = afterSending x fits state .control} _ _ _ refl (λ b z. ap (λ (c : Control). c .turn) z) (λ b z. ap (λ (c : Control). c .turn) z)
+  unfolding afterSending
+  sent-turn fits state =
+      let o = ap (λ (c : Control). c .turn) (sent-only (x .control) state) in
+      by-b {r = afterSending x fits state .control} _ _ _ refl (λ b z. ap (λ (c : Control). c .turn) z ∙ o) (λ b z. ap (λ (c : Control). c .turn) z ∙ o)
 
   -- at most 240 octets with the portion, where it and the waiting components have no more
   pub goes-few : (n : ℕ) → n + length (x .waiting) ≤ 240 → n + length (joined (goes e (fit e n))) ≤ 240

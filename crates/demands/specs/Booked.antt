@@ -14,9 +14,9 @@ use Rattle.paper.specs.Outcome.{Lent, Outcome, spacesFor, standing, given, show
 use Rattle.demand_readback.specs.Contents.{nothing-content}
 use Rattle.table_laws.specs.Fine.{Fine}
 use Rattle.table_laws.specs.Whole.{view-encode}
-use Rattle.demand_kept.specs.Steps.{WellFormed, step-kept}
+use Rattle.demand_kept.specs.StepKept.{WellFormed, step-kept}
 use Rattle.demand_ledger.specs.Agrees.{Agrees}
-use Rattle.demand_ledger.specs.Steps.{step-goes}
+use Rattle.demand_ledger.specs.StepPlayed.{step-goes}
 use Rattle.demands.specs.Stands.{stands}
 use Rattle.demands.specs.History.{Made, gave, after, AllFormed, told, told-step}
 

@@ -36,7 +36,7 @@ use Rattle.reading_messages.specs.Bounds.{message-in}
 use Rattle.table_laws.specs.Fine.{Octets}
 use Rattle.table_laws.specs.Whole.{view-encode}
 use Rattle.table_laws.specs.Ready.{Ready}
-use Rattle.demand_kept.specs.Steps.{WellFormed}
+use Rattle.demand_kept.specs.StepKept.{WellFormed}
 use Rattle.demand_kept.specs.Tables.{outcome-ready, ready-rules}
 use Rattle.table_shares.specs.Share.{below-given}
 use Rattle.table_shares.specs.Counting.{Moves}
@@ -44,7 +44,7 @@ use Rattle.table_shares.specs.Counting as counting
 use Rattle.demand_kept.specs.Shared.{sound}
 use Rattle.demand_kept.specs.Fresh.{fresh-is, fresh-fine}
 use Rattle.demand_ledger.specs.Agrees.{Holds, At, Agrees, holds-owns, unknown-not-owned}
-use Rattle.demand_ledger.specs.Steps.{fresh-agrees}
+use Rattle.demand_ledger.specs.StepPlayed.{fresh-agrees}
 use Rattle.demand_ledger.specs.Homes.{Comes, rowFor, id-back, number-is, addressee-is, comes-home, comes-nowhere}
 use Rattle.demands.specs.Stands.{Stands, not-refused}
 use Rattle.demands.specs.Begins.{begin-step}

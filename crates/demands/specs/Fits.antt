@@ -18,7 +18,6 @@ use Rattle.paper.specs.Invocations.{invocationOf}
 use Rattle.paper.specs.Kinds.{rowUni, rowBegin, rowContinue, rowEnd, rowUserAbort, rowAbort}
 use Rattle.paper.specs.Rows.{dialogueRow, cancelRow, componentRows}
 use Rattle.paper.specs.Dialogues.{Place, Request, refusal, does, request, unlessRefused, timeoutRows, emptyControl}
-use Rattle.paper.specs.Dialogues.Request.{Invoke, Result, Error, UserReject, Cancel, Begin, Continue, End, Prearranged, Abort, Unidirectional, Timeout, RejectTimeout, NoReaction}
 use Rattle.paper.specs.Calls.{Table, Call, Out, stored, requested, opened, owns, mayBegin, lowestFree, destinationNumber, itemsOf, shownRows, faultedAt, faulted, uniReceived, beginAt, beginReceived, continueReceived, endReceived, abortReceived, toDialogue, soundReceived, received, receivedIf, step, placeAt}
 use Rattle.paper.specs.Calls.Call.{Open, OnDialogue, Receive}
 use Rattle.reading_messages.specs.Bounds.{MessageIn, message-in}
@@ -26,7 +25,8 @@ use Rattle.table_laws.specs.Fine.{Octets, Fine}
 use Rattle.table_laws.specs.Owners.{owned-is}
 use Rattle.demand_kept.specs.Leaves.{whether-eq, whether-lt, whether-b}
 use Rattle.demand_kept.specs.Shared.{lowest-there}
-use Rattle.demand_kept.specs.Steps.{WellFormed}
+use Rattle.demand_kept.specs.Shapes.{by-shape}
+use Rattle.demand_kept.specs.StepKept.{WellFormed}
 use Rattle.demands.specs.Rows.{SmallRow, AllSmall, components-few, rows-long}
 use Rattle.demands.specs.Small.{none-small, more-small, dialogue-small, cancel-small, AllLie, components-lie, components-small}
 use Rattle.demand_ledger.specs.Read.{message-read}
@@ -58,22 +58,11 @@ module _ {A : Type 0} (P : A → Type 0) where
 -- REQUESTS
 module _ (me : ℕ) (small : me < 4294967296) (x : Place) where
   does-fit : (r : Request) → Fit (does me x r .rows)
-  unfolding does timeoutRows
-  does-fit (Invoke id linked class op par) = none-fit
-  does-fit (Result tag id op par) = none-fit
-  does-fit (Error id err par) = none-fit
-  does-fit (UserReject id p) = none-fit
-  does-fit (Cancel id) = none-fit
-  does-fit (Begin name info) = none-fit
-  does-fit (Continue name info) = none-fit
-  does-fit (End name info) = none-fit
-  does-fit Prearranged = none-fit
-  does-fit (Abort given) = none-fit
-  does-fit (Unidirectional name info) = none-fit
-  does-fit (Timeout id) = whether-eq Fit (invocationOf (x .control .invocations) id .class) 4 [] (cancelRow me id ∷ []) none-fit (one-fit (cancelRow me id) (cancel-small me id small))
-  does-fit (RejectTimeout id) = none-fit
-  does-fit NoReaction =
-      one-fit (dialogueRow rowAbort me noProblem noRun 0) (dialogue-small rowAbort me noProblem noRun 0 (omega arith) small (omega arith) (omega arith) (omega arith))
+  unfolding timeoutRows
+  does-fit =
+      by-shape me x (λ r o. Fit (o .rows)) (λ r y m e. none-fit)
+      (λ id y. whether-eq Fit (invocationOf (x .control .invocations) id .class) 4 [] (cancelRow me id ∷ []) none-fit (one-fit (cancelRow me id) (cancel-small me id small)))
+      (λ y. one-fit (dialogueRow rowAbort me noProblem noRun 0) (dialogue-small rowAbort me noProblem noRun 0 (omega arith) small (omega arith) (omega arith) (omega arith)))
 
   request-fit : (r : Request) → Fit (request me x r .rows)
   unfolding request

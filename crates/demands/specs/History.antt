@@ -1,16 +1,15 @@
 -- HISTORIES OF CALLS, at octets: what a host that hands the table on unaltered sees. Assumes nothing.
 use mathlib.Core.Path.{_≡_, refl, sym, ap, subst, _∙_}
 use mathlib.Core.List.{List, []}
-use mathlib.Core.Logic.{_⊎_, inl, inr}
 use Prim.Native.Nat.{ℕ, zero, suc, _*_, _≤_}
 use native.Mathlib.Omega.{arith}
 use lib.ListN.{length}
-use Rattle.laws.specs.If.{eq, ne}
+use Rattle.laws.specs.If.{eq, ne, true-false}
+use mathlib.Core.Bool.{Bool, true, false, cond}
 use Rattle.paper.specs.declared.Row.{Row}
-use Rattle.paper.specs.Sizes.{services, placeOf}
+use Rattle.paper.specs.Sizes.{services, leastRows, placeOf}
 use Rattle.paper.specs.Rows.{rowsAt}
-use Rattle.paper.specs.Dialogues.{Place, Request, refusal, does, request, unlessRefused}
-use Rattle.paper.specs.Dialogues.Request.{Invoke, Result, Error, UserReject, Cancel, Begin, Continue, End, Prearranged, Abort, Unidirectional, Timeout, RejectTimeout, NoReaction}
+use Rattle.paper.specs.Dialogues.{Place, Request, refusal, does, request, unlessRefused, shapeOf}
 use Rattle.paper.specs.Calls.{Table, Call, Out, placeAt, dialogues, stored, requested, opened, step}
 use Rattle.paper.specs.Calls.Call.{Open, OnDialogue, Receive}
 use Rattle.paper.specs.Layout.{encode, view}
@@ -21,7 +20,8 @@ use Rattle.table_laws.specs.Ready.{Ready, encode-ready}
 use Rattle.table_shares.specs.Counting.{only, Moves, moves-not, led, over, Each, over-moves}
 use Rattle.demand_kept.specs.Leaves.{whether-lt, whether-b}
 use Rattle.paper.specs.Counting.{Notice, toldBy, serviceOf, begunBy, endedBy}
-use Rattle.demand_kept.specs.Steps.{WellFormed, Left, step-left}
+use Rattle.demand_kept.specs.Shapes.{by-shape}
+use Rattle.demand_kept.specs.StepKept.{WellFormed, Left, step-left}
 use Rattle.demands.specs.Rows.{rows-back}
 use Rattle.demands.specs.Fits.{Fit, step-fit}
 use Rattle.demands.specs.Stands.{stands}
@@ -81,35 +81,19 @@ told-given l o done fit room =
     ∙ ap (λ (n : ℕ). record { answer = n; dialogue = o .dialogue; rows = o .rows }) (sym done)
 
 -- A CALL WITHOUT A ROW SPACE has no rows
-quiet : (me : ℕ) (x : Place) (r : Request) → spacesOf r .rows ≡ 0 → does me x r .rows ≡ []
-unfolding does
-quiet me x (Invoke id linked class op par) e = refl
-quiet me x (Result tag id op par) e = refl
-quiet me x (Error id err par) e = refl
-quiet me x (UserReject id p) e = refl
-quiet me x (Cancel id) e = refl
-quiet me x (Begin name info) e = refl
-quiet me x (Continue name info) e = refl
-quiet me x (End name info) e = refl
-quiet me x Prearranged e = refl
-quiet me x (Abort given) e = refl
-quiet me x (Unidirectional name info) e = refl
-quiet me x (Timeout id) e = absurd (omega arith)
-quiet me x (RejectTimeout id) e = refl
-quiet me x NoReaction e = absurd (omega arith)
-
-quiet-request : (me : ℕ) (x : Place) (r : Request) → spacesOf r .rows ≡ 0 → request me x r .rows ≡ []
+quiet-request : (me : ℕ) (x : Place) (r : Request) → shapeOf r .rows ≡ false → request me x r .rows ≡ []
 unfolding request
 quiet-request me x r e = go (refusal x r)
   where
     go : (n : ℕ) → unlessRefused n x (does me x r) .rows ≡ []
-    go zero = quiet me x r e
+    go zero =
+        by-shape me x (λ r o. shapeOf r .rows ≡ false → o .rows ≡ []) (λ r y m e z. refl) (λ id y z. absurd (true-false z)) (λ y z. absurd (true-false z)) r e
     go (suc n) = refl
 
 abbrev Quiet : Out → Type 0
 Quiet o = o .rows ≡ []
 
-quiet-step : (T : Table) (service dialogue : ℕ) (r : Request) → spacesOf r .rows ≡ 0 → Quiet (step T (OnDialogue service dialogue r))
+quiet-step : (T : Table) (service dialogue : ℕ) (r : Request) → shapeOf r .rows ≡ false → Quiet (step T (OnDialogue service dialogue r))
 unfolding step requested stored
 quiet-step T service dialogue r e =
     whether-lt Quiet service services _ _ (whether-b Quiet _ _ _ (quiet-request dialogue (placeAt T (placeOf dialogue)) r e) refl) refl
@@ -125,29 +109,11 @@ few-rows rs l e = omega (arith, ap (λ (x : List Row). length x) e)
 rows-fit : (T : Table) → Fine T → (l : Lent) (c : Call) → WellFormed c → standing l (spacesFor c) ≡ 0 → 32 * length (step T c .rows) ≤ length (l .rows)
 rows-fit T f l (Open service) o e = few-rows _ l (quiet-open T service)
 rows-fit T f l (Receive service s) o e = omega (arith, step-fit T f (Receive service s) o .few, stands l (spacesFor (Receive service s)) e .rows)
-rows-fit T f l (OnDialogue service dialogue r) o e =
-    by-space (spacesOf r .rows) refl (omega (arith, step-fit T f (OnDialogue service dialogue r) o .few)) (stands l (spacesOf r) e .rows) (either r)
+rows-fit T f l (OnDialogue service dialogue r) o e = by (shapeOf r .rows) refl (stands l (spacesOf r) e .rows)
   where
-    either : (r : Request) → (spacesOf r .rows ≡ 0) ⊎ (spacesOf r .rows ≡ 4096)
-    either (Invoke id linked class op par) = inl refl
-    either (Result tag id op par) = inl refl
-    either (Error id err par) = inl refl
-    either (UserReject id p) = inl refl
-    either (Cancel id) = inl refl
-    either (Begin name info) = inl refl
-    either (Continue name info) = inl refl
-    either (End name info) = inl refl
-    either Prearranged = inl refl
-    either (Abort given) = inl refl
-    either (Unidirectional name info) = inl refl
-    either (Timeout id) = inr refl
-    either (RejectTimeout id) = inl refl
-    either NoReaction = inr refl
-
-    by-space : (n : ℕ) → n ≡ spacesOf r .rows → 32 * length (step T (OnDialogue service dialogue r) .rows) ≤ 4096 → spacesOf r .rows ≤ length (l .rows)
-        → (spacesOf r .rows ≡ 0) ⊎ (spacesOf r .rows ≡ 4096) → 32 * length (step T (OnDialogue service dialogue r) .rows) ≤ length (l .rows)
-    by-space n q few h (inl z) = few-rows _ l (quiet-step T service dialogue r z)
-    by-space n q few h (inr z) = omega arith
+    by : (b : Bool) → shapeOf r .rows ≡ b → cond b leastRows 0 ≤ length (l .rows) → 32 * length (step T (OnDialogue service dialogue r) .rows) ≤ length (l .rows)
+    by true q h = omega (arith, step-fit T f (OnDialogue service dialogue r) o .few)
+    by false q h = few-rows _ l (quiet-step T service dialogue r q)
 
 -- calls as a host can make them: octets are below 256, IDs are octets
 abbrev pub AllFormed : List Made → Type 0

@@ -23,7 +23,7 @@ use Rattle.paper.specs.Messages.{messageOf}
 use Rattle.paper.specs.Counting.{serviceOf}
 use Rattle.paper.specs.Layout.{view}
 use Rattle.paper.specs.Outcome.{Lent, Outcome, standing, shown, outcome, freshAnswer, freshOutcome}
-use Rattle.demand_kept.specs.Steps.{does-answers}
+use Rattle.demand_kept.specs.Shapes.{does-answers}
 use Rattle.demands.specs.Applies.{Case, among, isIn, over, given, unnamed, inActive, portionCases, casesOf, casesIn, cases, applies, some, freshCases, freshApplies, Lowest}
 use Rattle.demands.specs.Tails.{received-quiet}
 

@@ -1,42 +1,31 @@
 -- WHAT A HOST READS OF A PORTION, asked at the run that the reading of its message gives (02 a). Assumes nothing.
 use mathlib.Core.Path.{_≡_, refl, sym, ap, _∙_}
+use mathlib.Core.Bool.{Bool, true, false, cond}
 use mathlib.Core.List.{List}
 use Prim.Native.Nat.{ℕ, _≤_}
 use native.Mathlib.Omega.{arith}
 use lib.ListN.{length}
 use Rattle.laws.specs.If.{by-eq, by-b}
 use Rattle.paper.specs.declared.Run.{Run}
+use Rattle.paper.specs.Sizes.{leastSpace}
 use Rattle.paper.specs.Messages.{messageOf}
 use Rattle.paper.specs.Portions.{Spoken, partsIn, portionAt}
-use Rattle.paper.specs.Dialogues.{Request}
-use Rattle.paper.specs.Dialogues.Request.{Invoke, Result, Error, UserReject, Cancel, Begin, Continue, End, Prearranged, Abort, Unidirectional, Timeout, RejectTimeout, NoReaction}
+use Rattle.paper.specs.Dialogues.{shapeOf}
 use Rattle.paper.specs.Calls.{Call}
 use Rattle.paper.specs.Calls.Call.{Open, OnDialogue, Receive}
-use Rattle.paper.specs.Outcome.{spacesOf, spacesFor}
+use Rattle.paper.specs.Outcome.{spacesFor}
 use Rattle.paper.specs.Contents.{Content, Wire, contentBy, messageIn, contentOf}
 use Rattle.reading_messages.specs.Bounds.{message-in}
 use Rattle.reading_portion.specs.InPlace.{told-in-place}
 
 -- no call needs more message space than 272 octets
-request-space : (r : Request) → spacesOf r .space ≤ 272
-request-space (Invoke id linked class op par) = omega arith
-request-space (Result tag id op par) = omega arith
-request-space (Error id err par) = omega arith
-request-space (UserReject id p) = omega arith
-request-space (Cancel id) = omega arith
-request-space (Begin name info) = omega arith
-request-space (Continue name info) = omega arith
-request-space (End name info) = omega arith
-request-space Prearranged = omega arith
-request-space (Abort given) = omega arith
-request-space (Unidirectional name info) = omega arith
-request-space (Timeout id) = omega arith
-request-space (RejectTimeout id) = omega arith
-request-space NoReaction = omega arith
+space-of : (b : Bool) → cond b leastSpace 0 ≤ leastSpace
+space-of true = omega arith
+space-of false = omega arith
 
 pub space-small : (c : Call) → spacesFor c .space ≤ 272
 space-small (Open service) = omega arith
-space-small (OnDialogue service dialogue r) = request-space r
+space-small (OnDialogue service dialogue r) = space-of (shapeOf r .message)
 space-small (Receive service s) = omega arith
 
 -- octets that hold a message hold what their reading says

@@ -19,7 +19,8 @@ use Rattle.paper.specs.Outcome.{Lent, Outcome, standing, spacesFor, given, show
 use Rattle.table_laws.specs.Fine.{Fine}
 use Rattle.table_laws.specs.Whole.{view-encode}
 use Rattle.table_laws.specs.Ready.{encode-stands}
-use Rattle.demand_kept.specs.Steps.{WellFormed, does-answers}
+use Rattle.demand_kept.specs.Shapes.{does-answers}
+use Rattle.demand_kept.specs.StepKept.{WellFormed}
 use Rattle.demands.specs.Tails.{received-quiet}
 use Rattle.demands.specs.Applies.{among, casesOf, applies}
 use Rattle.demands.specs.Lowest.{lowest}

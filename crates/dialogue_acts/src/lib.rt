@@ -2,13 +2,28 @@
 ghost use mathlib.Core.Bool.{false};
 ghost use mathlib.Core.Path.{_≡_};
 ghost use Prim.Native.Nat.{ℕ, _<_};
+ghost use lib.ListN.{getD};
 ghost use Rattle.paper.specs.declared.Control.{Control};
-ghost use Rattle.paper.specs.Invocations.{slotOf, takes, answerKind, answerProblem, answersSent, answers, invokes, released, rejectKind, rejects, isAnswer, faults, act, withReject};
-ghost use Rattle.dialogue_acts.specs.Told.{storedKind, putAt, changed, does, stay};
+ghost use Rattle.paper.specs.Invocations.{noInvocation, sent, slotOf, takes, answerKind, answerProblem, answersSent, answers, invokes, released, rejectKind, rejects, isAnswer, faults, act, withReject};
+ghost use Rattle.dialogue_acts.specs.Told.{storedKind, turned, changed, does, stay};
 use paper::Component;
 use paper::Control;
+use paper::IDLE;
 use paper::Invocation;
+use paper::NO_FAULT;
+use paper::NO_ID;
+use paper::NO_PROBLEM;
+use paper::ROW_ERROR;
+use paper::ROW_INVOKE;
+use paper::ROW_LAST;
+use paper::ROW_NOT_LAST;
+use paper::ROW_NOT_STORED;
+use paper::ROW_REJECTED;
+use paper::ROW_REMOTE_REJECT;
+use paper::ROW_USER_REJECT;
 use paper::Reject;
+use paper::SENT;
+use paper::WAIT;
 
 // What is told of a component: its row's kind and problem, and the slot of ours that changes, with what it then holds; slot 8 for none.
 // Where the kind is 13, a reject waits besides.
@@ -39,9 +54,9 @@ fn stored_kind(count: u8, room: u8) -> u32
     ensures waits { λ r. ⌜ (r ≡ 13 → count < room) ⌝ }
 {
     if count < room {
-        return 13;
+        return ROW_REJECTED;
     }
-    14
+    ROW_NOT_STORED
 }
 
 // What a class does with an answer of that tag: 0 rejected, 1 stays Sent, 2 to Wait.
@@ -80,12 +95,12 @@ fn answer_kind(tag: u8) -> u32
     ensures low { λ r. ⌜ r < 13 ⌝ }
 {
     if tag == 0xA2 {
-        return 8;
+        return ROW_LAST;
     }
     if tag == 0xA7 {
-        return 9;
+        return ROW_NOT_LAST;
     }
-    10
+    ROW_ERROR
 }
 
 // Result problems, of an A3 error problems.
@@ -99,20 +114,9 @@ fn answer_problem(tag: u8, code: u32) -> u32
     512 + code
 }
 
-fn moved(v: Invocation, state: u8, shown: u8) -> Invocation
-    ensures { λ r. ⌜ r ≡ record { id = v .id; class = v .class; state = state; shown = shown } ⌝ }
-{
-    Invocation {
-        id: v.id,
-        class: v.class,
-        state,
-        shown,
-    }
-}
-
 // An answer to the Sent invocation in slot i; kind is that of a reject of ours, here and below.
 fn answer_sent(l: [Invocation; 8], i: usize, tag: u8, kind: u32) -> Told
-    requires { ⌜ i < 8 ⌝ }
+    requires { ⌜ (i < 8) × (getD l i noInvocation .state ≡ sent) ⌝ }
     ensures is { λ r. ⌜ ((room id : ℕ) (c : Control) → l ≡ c .invocations → i ≡ slotOf l id → kind ≡ storedKind room (c .count) → does c id r ≡ answersSent room c tag id) ⌝ }
     ensures waits { λ r. ⌜ (r .kind ≡ 13 → kind ≡ 13) ⌝ }
 {
@@ -129,19 +133,20 @@ fn answer_sent(l: [Invocation; 8], i: usize, tag: u8, kind: u32) -> Told
         };
     }
     let shown = answer_kind(tag);
+    let mut put = v;
     if n == 1 {
-        let put = moved(v, v.state, 1);
+        put.shown = 1;
         return Told {
             kind: shown,
-            problem: 65535,
+            problem: NO_PROBLEM,
             slot: i,
             put,
         };
     }
-    let put = moved(v, 3, v.shown);
+    put.state = WAIT;
     Told {
         kind: shown,
-        problem: 65535,
+        problem: NO_PROBLEM,
         slot: i,
         put,
     }
@@ -154,7 +159,7 @@ fn answer(l: [Invocation; 8], tag: u8, id: u32, kind: u32) -> Told
 {
     let i = dialogue_invocations::slot_of(l, id);
     let state = dialogue_invocations::state_at(l, i);
-    if state == 2 {
+    if state == SENT {
         return answer_sent(l, i, tag, kind);
     }
     let problem = answer_problem(tag, 0);
@@ -166,24 +171,24 @@ fn invoke(l: [Invocation; 8], linked: u32, kind: u32) -> Told
     ensures is { λ r. ⌜ ((room id : ℕ) (c : Control) → l ≡ c .invocations → kind ≡ storedKind room (c .count) → does c id r ≡ invokes room c id linked) ⌝ }
     ensures waits { λ r. ⌜ (r .kind ≡ 13 → kind ≡ 13) ⌝ }
 {
-    if linked == 256 {
-        return stays(7, 65535);
+    if linked == NO_ID {
+        return stays(ROW_INVOKE, NO_PROBLEM);
     }
     let state = dialogue_invocations::state_of(l, linked);
-    if state == 2 {
-        return stays(7, 65535);
+    if state == SENT {
+        return stays(ROW_INVOKE, NO_PROBLEM);
     }
     stays(kind, 261)
 }
 
 // Its Sent invocation to Idle, other states unchanged.
 fn release(l: [Invocation; 8], id: u32, kind: u32, problem: u32) -> Told
-    ensures is { λ r. ⌜ ((c : Control) → l ≡ c .invocations → released c id ≡ putAt c (r .slot) (r .put)) ⌝ }
+    ensures is { λ r. ⌜ ((c : Control) → l ≡ c .invocations → released c id ≡ turned c id r) ⌝ }
     ensures told { λ r. ⌜ (r .kind ≡ kind) × (r .problem ≡ problem) ⌝ }
 {
     let i = dialogue_invocations::slot_of(l, id);
     let state = dialogue_invocations::state_at(l, i);
-    if state == 2 {
+    if state == SENT {
         let put = dialogue_invocations::no_invocation();
         return Told {
             kind,
@@ -202,9 +207,9 @@ fn reject_kind(problem: u32) -> u32
 {
     let sender = reading_problems::sender(problem / 256, problem % 256);
     if sender == 1 {
-        return 11;
+        return ROW_USER_REJECT;
     }
-    12
+    ROW_REMOTE_REJECT
 }
 
 // A reject received.
@@ -238,10 +243,10 @@ fn fault(l: [Invocation; 8], p: Component, kind: u32) -> Told
 {
     let code = p.fault as u32;
     if p.tag == 0xA4 {
-        if p.problem == 65535 {
-            return stays(14, code);
+        if p.problem == NO_PROBLEM {
+            return stays(ROW_NOT_STORED, code);
         }
-        return release(l, p.id, 14, code);
+        return release(l, p.id, ROW_NOT_STORED, code);
     }
     if is_answer(p.tag) {
         return release(l, p.id, kind, code);
@@ -256,7 +261,7 @@ pub fn act(l: [Invocation; 8], count: u8, p: Component, room: u8) -> Told
     ensures waits { λ r. ⌜ (r .kind ≡ 13 → count < room) ⌝ }
 {
     let kind = stored_kind(count, room);
-    if p.fault != 3 {
+    if p.fault != NO_FAULT {
         return fault(l, p, kind);
     }
     if p.tag == 0xA1 {
@@ -272,20 +277,26 @@ pub fn act(l: [Invocation; 8], count: u8, p: Component, room: u8) -> Told
 pub fn is_change(t: Told) -> bool
     ensures { λ r. ⌜ (r ≡ false → (c : Control) (id : ℕ) → c ≡ changed c id t) ⌝ }
 {
-    if t.kind == 13 {
+    if t.kind == ROW_REJECTED {
         return true;
     }
     t.slot < 8
 }
 
-fn put_at(c: Control, i: usize, v: Invocation) -> Control
-    ensures is { λ r. ⌜ r ≡ putAt c i v ⌝ }
+// Its invocation put, or to Idle.
+fn turned(c: Control, id: u32, t: Told) -> Control
+    ensures is { λ r. ⌜ r ≡ turned c id t ⌝ }
     ensures count { λ r. ⌜ r .count ≡ c .count ⌝ }
 {
-    if i < 8 {
-        return dialogue_invocations::put_invocation(c, i, v);
+    let i = t.slot;
+    let put = t.put;
+    if i >= 8 {
+        return c;
     }
-    c
+    if put.state == IDLE {
+        return dialogue_invocations::release(c, id);
+    }
+    dialogue_invocations::put_invocation(c, i, put)
 }
 
 // A reject of ours waits.
@@ -306,9 +317,8 @@ pub fn changed(c: Control, id: u32, t: Told) -> Control
     requires { ⌜ (t .kind ≡ 13 → c .count < 8) ⌝ }
     ensures { λ r. ⌜ r ≡ changed c id t ⌝ }
 {
-    let put = t.put;
-    let d = put_at(c, t.slot, put);
-    if t.kind == 13 {
+    let d = turned(c, id, t);
+    if t.kind == ROW_REJECTED {
         return wait(d, id, t.problem);
     }
     d

@@ -3,15 +3,21 @@ ghost use mathlib.Core.Bool.{true};
 ghost use mathlib.Core.Path.{_≡_};
 ghost use Prim.Native.Nat.{ℕ, _+_, _<_, _≤_};
 ghost use mathlib.Core.List.{map};
-ghost use lib.ListN.{getD};
-ghost use Rattle.paper.specs.Invocations.{noInvocation, isOpen, isIdle, slotOf, idleSlot, invocationOf, withInvocation, toState, toIdle, passed, transmitted, allTransmitted, mayReject};
+ghost use lib.ListN.{length, getD};
+ghost use Rattle.paper.specs.Invocations.{noInvocation, isOpen, isIdle, slotOf, idleSlot, invocationOf, withInvocation, toState, toIdle, allIdle, passed, transmitted, rejectingIDs, allTransmitted, rejecting, mayReject};
+ghost use Rattle.laws.specs.If.{ifEq};
 use paper::Control;
+use paper::IDLE;
 use paper::Invocation;
+use paper::PENDING;
+use paper::REJECTING;
+use paper::SENT;
+use paper::WAIT;
 
 fn is_open(id: u32, v: Invocation) -> bool
     ensures { λ r. ⌜ r ≡ isOpen id v ⌝ }
 {
-    if v.state == 0 {
+    if v.state == IDLE {
         return false;
     }
     (v.id as u32) == id
@@ -35,7 +41,7 @@ fn all_idle(l: [Invocation; 8]) -> bool
 // The slot of our invocation of that ID, in any state but Idle; else 8.
 pub fn slot_of(l: [Invocation; 8], id: u32) -> usize
     ensures is { λ r. ⌜ r ≡ slotOf l id ⌝ }
-    ensures within { λ r. ⌜ r ≤ 8 ⌝ }
+    ensures within { λ r. ⌜ (r ≤ 8) × (length l ≡ 8) ⌝ }
 {
     if all_idle(l) {
         return 8;
@@ -53,7 +59,7 @@ pub fn slot_of(l: [Invocation; 8], id: u32) -> usize
 fn is_idle(v: Invocation) -> bool
     ensures { λ r. ⌜ r ≡ isIdle v ⌝ }
 {
-    v.state == 0
+    v.state == IDLE
 }
 
 // The first slot that is Idle; 8 where none is.
@@ -77,7 +83,7 @@ pub fn no_invocation() -> Invocation
     Invocation {
         id: 0,
         class: 0,
-        state: 0,
+        state: IDLE,
         shown: 0,
     }
 }
@@ -103,7 +109,7 @@ pub fn state_at(l: [Invocation; 8], i: usize) -> u8
         let v = l[i];
         return v.state;
     }
-    0
+    IDLE
 }
 
 // The state of our invocation of an ID.
@@ -131,7 +137,7 @@ pub fn put_invocation(c: Control, i: usize, v: Invocation) -> Control
     d
 }
 
-// The invocation of an ID, in slot i, to Idle.
+// EVERY WAY TO IDLE: the invocation of an ID, in slot i.
 pub fn to_idle(c: Control, id: u32, i: usize) -> Control
     requires { ⌜ (i < 8) × (i ≡ slotOf (c .invocations) id) ⌝ }
     ensures { λ r. ⌜ r ≡ toIdle c id ⌝ }
@@ -140,20 +146,27 @@ pub fn to_idle(c: Control, id: u32, i: usize) -> Control
     put_invocation(c, i, v)
 }
 
-// To a state.
+// The same, its slot looked up.
+pub fn release(c: Control, id: u32) -> Control
+    ensures { λ r. ⌜ r ≡ toIdle c id ⌝ }
+{
+    let l = c.invocations;
+    let i = slot_of(l, id);
+    if i < 8 {
+        return to_idle(c, id, i);
+    }
+    c
+}
+
+// To a state in use.
 pub fn to_state(c: Control, id: u32, i: usize, state: u8) -> Control
     requires { ⌜ (i < 8) × (i ≡ slotOf (c .invocations) id) ⌝ }
     ensures { λ r. ⌜ r ≡ toState c id state ⌝ }
 {
     let l = c.invocations;
-    let v = l[i];
-    let w = Invocation {
-        id: v.id,
-        class: v.class,
-        state,
-        shown: v.shown,
-    };
-    put_invocation(c, i, w)
+    let mut v = l[i];
+    v.state = state;
+    put_invocation(c, i, v)
 }
 
 // A new invocation, Pending, in slot i.
@@ -164,7 +177,7 @@ pub fn pass(c: Control, id: u8, class: u8, i: usize) -> Control
     let v = Invocation {
         id,
         class,
-        state: 1,
+        state: PENDING,
         shown: 0,
     };
     put_invocation(c, i, v)
@@ -177,11 +190,11 @@ pub fn may_reject(kind: u32, v: Invocation) -> bool
     if kind == 1 {
         return true;
     }
-    if v.state == 3 {
+    if v.state == WAIT {
         return true;
     }
     if kind == 2 {
-        if v.state == 2 {
+        if v.state == SENT {
             return v.shown == 1;
         }
         return false;
@@ -189,25 +202,18 @@ pub fn may_reject(kind: u32, v: Invocation) -> bool
     false
 }
 
-// Pending to Sent, Rejecting to Idle.
+// Pending to Sent.
 fn transmit(v: Invocation) -> Invocation
     ensures { λ r. ⌜ r ≡ transmitted v ⌝ }
 {
-    if v.state == 1 {
-        return Invocation {
-            id: v.id,
-            class: v.class,
-            state: 2,
-            shown: v.shown,
-        };
-    }
-    if v.state == 4 {
-        return no_invocation();
+    if v.state == PENDING {
+        let mut w = v;
+        w.state = SENT;
+        return w;
     }
     v
 }
 
-// What a sending does to all of them.
 fn transmit_all(l: [Invocation; 8]) -> [Invocation; 8]
     ensures { λ r. ⌜ r ≡ map transmitted l ⌝ }
 {
@@ -220,6 +226,29 @@ fn transmit_all(l: [Invocation; 8]) -> [Invocation; 8]
     m
 }
 
+// One that was Rejecting to Idle.
+fn settle(c: Control, v: Invocation) -> Control
+    ensures { λ r. ⌜ r ≡ ifEq (v .state) rejecting (toIdle c (v .id)) c ⌝ }
+{
+    if v.state == REJECTING {
+        return release(c, laws::number(v.id));
+    }
+    c
+}
+
+fn settle_all(c: Control, l: [Invocation; 8]) -> Control
+    ensures { λ r. ⌜ r ≡ allIdle c (rejectingIDs l) ⌝ }
+{
+    let mut d = c;
+    let mut i: usize = 0;
+    while i < 8 {
+        d = settle(d, l[i]);
+        i += 1;
+    }
+    d
+}
+
+// What a sending does: Pending ones to Sent, then each that was Rejecting to Idle.
 pub fn sent_out(c: Control) -> Control
     ensures { λ r. ⌜ r ≡ allTransmitted c ⌝ }
 {
@@ -227,5 +256,5 @@ pub fn sent_out(c: Control) -> Control
     let m = transmit_all(l);
     let mut d = c;
     d.invocations = m;
-    d
+    settle_all(d, l)
 }

@@ -8,7 +8,8 @@ use Rattle.paper.specs.declared.Invocation.{Invocation}
 use Rattle.paper.specs.declared.Row.{Row}
 use Rattle.paper.specs.Problems.{problem, kindOf}
 use Rattle.paper.specs.Components.{Item, rejectTag, noFault, ifRead}
-use Rattle.paper.specs.Invocations.{idle, pending, sent, wait, rejecting, noInvocation, inState, transmitted, isAnswer}
+use Rattle.paper.specs.Invocations.{idle, sent, wait, rejecting, noInvocation, inState, transmitted, isAnswer, wasShown}
+use Rattle.paper.specs.Kinds.{rowInvoke, rowLast, rowNotLast, rowError, rowRejected}
 
 -- ours of an ID, in Idle where it isn't in use
 unfoldable pub oursOf : List Invocation → ℕ → Invocation
@@ -19,10 +20,6 @@ oursOf (v ∷ l) id = ifEq (v .id) id v (oursOf l id)
 unfoldable pub becomes : List Invocation → ℕ → Invocation → List Invocation
 becomes [] id v = ifEq (v .state) idle [] (v ∷ [])
 becomes (w ∷ l) id v = ifEq (w .id) id (ifEq (v .state) idle l (v ∷ l)) (w ∷ becomes l id v)
-
--- "Pending (passed)"
-abbrev pub newOne : ℕ → ℕ → Invocation
-newOne id class = record { id = id; class = class; state = pending; shown = 0 }
 
 -- "User reject of a result .. of an error ..: Rejecting until transmitted"; "of an invoke needs no state"
 unfoldable pub userRejects : List Invocation → ℕ → ℕ → List Invocation
@@ -36,10 +33,6 @@ allSent (v ∷ l) = ifEq (v .state) rejecting (allSent l) (transmitted v ∷ all
 -- WHAT OUR INVOCATION BECOMES. "Sent to Idle, other states unchanged"
 unfoldable pub releases : Invocation → Invocation
 releases v = ifEq (v .state) sent noInvocation v
-
--- "Sent after an A7 was shown"
-abbrev pub wasShown : Invocation → Invocation
-wasShown v = record { id = v .id; class = v .class; state = v .state; shown = 1 }
 
 -- "A faulty A2, A3, A7 returns its Sent invocation to Idle"; a faulty A4 "only if ID and tag 81 can be read"
 unfoldable pub faultHeard : Component → Invocation → Invocation
@@ -56,11 +49,11 @@ rejectHeard q p v =
 -- Sent to Idle, other states unchanged. With result or error problem ..: shown, no change."; 13 and 14: a reject of ours
 unfoldable pub heardOf : ℕ → ℕ → Component → Invocation → Invocation
 heardOf kind q p v =
-    ifEq kind 7 v
-    (ifEq kind 8 (inState v wait)
-    (ifEq kind 9 (wasShown v)
-    (ifEq kind 10 (inState v wait)
-    (ifLt kind 13 (ifLt (kindOf q) 2 (releases v) v)
+    ifEq kind rowInvoke v
+    (ifEq kind rowLast (inState v wait)
+    (ifEq kind rowNotLast (wasShown v)
+    (ifEq kind rowError (inState v wait)
+    (ifLt kind rowRejected (ifLt (kindOf q) 2 (releases v) v)
     (rejectHeard q p v)))))
 
 -- each component of a message in order, with its row

@@ -13,6 +13,7 @@ use Rattle.paper.specs.declared.Message.{Message}
 use Rattle.paper.specs.declared.Control.{Control}
 use Rattle.paper.specs.declared.Row.{Row}
 use Rattle.paper.specs.Sizes.{placesInAll, services, longestMessage, mostRejects, localID, placeOf, turnOf}
+use Rattle.paper.specs.Records.{withState, withPeerID}
 use Rattle.paper.specs.Problems.{noProblem}
 use Rattle.paper.specs.Components.{Item, components}
 use Rattle.paper.specs.Messages.{messageOf, isSound, isDropped, noRun, uniTag, beginTag, endTag, continueTag}
@@ -174,16 +175,7 @@ beginReceived T service s m = ifB (mayBegin T service) (beginAt T service (lowes
 
 -- "Continue in Sent stores the peer's ID and makes Active; later ones don't change it."
 abbrev pub withPeer : Control → ℕ → List ℕ → Control
-withPeer c peerlen peer = record {
-  turn = c .turn;
-  state = dialogueActive;
-  service = c .service;
-  peerlen = peerlen;
-  peer = peer;
-  count = c .count;
-  invocations = c .invocations;
-  rejects = c .rejects;
-}
+withPeer c peerlen peer = withState (withPeerID c peerlen peer) dialogueActive
 
 unfoldable pub continuedControl : Control → List ℕ → Message → Control
 continuedControl c s m = ifEq (c .state) dialogueSent (withPeer c (m .origin .length) (pad 4 (octetsAt s (m .origin)))) c

@@ -10,7 +10,7 @@ use Rattle.paper.specs.Components.{knownTag, single, someEnd, codeEnd, l
 use Rattle.paper.specs.Messages.{idAt, originOf, destinationOf, derived, closes, octetAt, componentsBy, componentsPart, abortPart, portionPart, inOrder, knownType, byLength, messageOf}
 use Rattle.paper.specs.Writing.{lengthOctets, tlv, linkedThen, invokeOctets, resultOctets, errorOctets, problemOctets, rejectOctets, componentsOctets, beginOctets, continueOctets, endOctets, uniOctets, userAbortOctets, causeAbortOctets, octetsOf, joined}
 use Rattle.paper.specs.Portions.{Spoken, pieceOctets, piecesOctets, portionOctets, portionBy, tagged, only, standsAt, valueIn, nameIn, resultIn, diagnosticIn, piece, allPieces, external, pduOf, readBy, portionOf, portionAt, spokenIn, spokenBy}
-use Rattle.paper.specs.Invocations.{isOpen, isIdle, slotOf, idleSlot, invocationOf, toState, toIdle, passed, notLastShown, transmitted, allTransmitted, rejected, takes, answerKind, answerProblem, answersSent, answers, invokes, released, rejectKind, rejects, faultyReject, isAnswer, faults, act, mayReject}
+use Rattle.paper.specs.Invocations.{isOpen, isIdle, slotOf, idleSlot, invocationOf, toState, toIdle, allIdle, passed, notLastShown, transmitted, rejectingIDs, allTransmitted, rejected, takes, answerKind, answerProblem, answersSent, answers, invokes, released, rejectKind, rejects, faultyReject, isAnswer, faults, act, mayReject}
 use Rattle.paper.specs.Rows.{signed, startOf, extentOf, componentRow, allActed, componentRows, rowsOctets}
 use Rattle.paper.specs.Shares.{gives, sharesFit, sharesKept}
 use Rattle.paper.specs.Dialogues.{hasPeer, isCode, isParameter, isResult, isPortion, isName, isBlock, isInformation, overfull, first, unplaced, portionRefusal, invokeRefusal, resultRefusal, errorRefusal, rejectRefusal, rejectedBy, needs, timeoutRows, allRejects, waitingRejects, rejectsFit, sentComponents, afterSending, needsOpen, needsPeer, needsSent, ofClass4, uniRefusal, isAbort, abortPortion, abortRefusal, abortMessage, refusal, does, request}
@@ -23,7 +23,7 @@ use Rattle.paper.specs.Ledger.{Entry, Ledger, find, altered, removed, fi
 use Rattle.paper.specs.Readers.{parameterOf, parameterAt, parameter, soundItems, itemsBy, messageItems}
 
 unfoldable pub computed : Table → Call → Out
-unfolding ifLt ifEq ifB pad firstAt every tagMore tagEnd lengthAt headBy headAt ended contents element frameAt senderOf knownTag single someEnd codeEnd lastPiece invokePieces resultBoth resultPieces problemAt tag81 rejectPieces nullPieces piecesAfter pieces readProblem framed tagAt componentAt nextStart items components waitingItems idAt originOf destinationOf derived closes octetAt componentsBy componentsPart abortPart portionPart inOrder knownType byLength messageOf lengthOctets tlv linkedThen invokeOctets resultOctets errorOctets problemOctets rejectOctets componentsOctets beginOctets continueOctets endOctets uniOctets userAbortOctets causeAbortOctets pieceOctets piecesOctets portionOctets portionBy tagged only standsAt valueIn nameIn resultIn diagnosticIn piece allPieces external pduOf readBy portionOf portionAt isOpen isIdle slotOf idleSlot invocationOf toState toIdle passed notLastShown transmitted allTransmitted rejected takes answerKind answerProblem answersSent answers invokes released rejectKind rejects faultyReject isAnswer faults act mayReject signed startOf extentOf componentRow allActed componentRows rowsOctets gives sharesFit sharesKept isElement hasPeer isCode isParameter isResult isPortion isName isBlock isInformation overfull first unplaced portionRefusal invokeRefusal resultRefusal errorRefusal rejectRefusal rejectedBy needs timeoutRows allRejects waitingRejects rejectsFit sentComponents afterSending needsOpen needsPeer needsSent ofClass4 uniRefusal isAbort abortPortion abortRefusal abortMessage refusal does request isFree isOf held mayBegin lowestFree isDialogue owns stored requested opened assigned faultedAt faulted itemsOf uniReceived beginAt beginReceived continuedControl continueReceived endReceived abortReceived toDialogue soundReceived received receivedIf step freshTable parameterOf parameterAt parameter soundItems itemsBy messageItems
+unfolding ifLt ifEq ifB pad firstAt every tagMore tagEnd lengthAt headBy headAt ended contents element frameAt senderOf knownTag single someEnd codeEnd lastPiece invokePieces resultBoth resultPieces problemAt tag81 rejectPieces nullPieces piecesAfter pieces readProblem framed tagAt componentAt nextStart items components waitingItems idAt originOf destinationOf derived closes octetAt componentsBy componentsPart abortPart portionPart inOrder knownType byLength messageOf lengthOctets tlv linkedThen invokeOctets resultOctets errorOctets problemOctets rejectOctets componentsOctets beginOctets continueOctets endOctets uniOctets userAbortOctets causeAbortOctets pieceOctets piecesOctets portionOctets portionBy tagged only standsAt valueIn nameIn resultIn diagnosticIn piece allPieces external pduOf readBy portionOf portionAt isOpen isIdle slotOf idleSlot invocationOf toState toIdle allIdle passed notLastShown transmitted rejectingIDs allTransmitted rejected takes answerKind answerProblem answersSent answers invokes released rejectKind rejects faultyReject isAnswer faults act mayReject signed startOf extentOf componentRow allActed componentRows rowsOctets gives sharesFit sharesKept isElement hasPeer isCode isParameter isResult isPortion isName isBlock isInformation overfull first unplaced portionRefusal invokeRefusal resultRefusal errorRefusal rejectRefusal rejectedBy needs timeoutRows allRejects waitingRejects rejectsFit sentComponents afterSending needsOpen needsPeer needsSent ofClass4 uniRefusal isAbort abortPortion abortRefusal abortMessage refusal does request isFree isOf held mayBegin lowestFree isDialogue owns stored requested opened assigned faultedAt faulted itemsOf uniReceived beginAt beginReceived continuedControl continueReceived endReceived abortReceived toDialogue soundReceived received receivedIf step freshTable parameterOf parameterAt parameter soundItems itemsBy messageItems
 computed T c = step T c
 
 -- what a dialogue portion says

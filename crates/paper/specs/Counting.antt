@@ -1,12 +1,12 @@
 -- COUNTED FOR DEMAND 3 (01, "A received message"): from the calls, their answers and rows alone, never from the table. Assumes nothing.
+use mathlib.Core.Bool.{cond}
 use mathlib.Core.List.{List}
 use Prim.Native.Nat.{ℕ, zero, suc, _+_}
 use Rattle.laws.specs.If.{ifEq}
 use Rattle.laws.specs.Sums.{sumBy}
 use Rattle.paper.specs.declared.Row.{Row}
 use Rattle.paper.specs.Kinds.{rowBegin, rowEnd, rowUserAbort, rowAbort}
-use Rattle.paper.specs.Dialogues.{Request}
-use Rattle.paper.specs.Dialogues.Request.{Invoke, Result, Error, UserReject, Cancel, Begin, Continue, End, Prearranged, Abort, Unidirectional, Timeout, RejectTimeout, NoReaction}
+use Rattle.paper.specs.Dialogues.{Request, shapeOf}
 use Rattle.paper.specs.Calls.{Call, Out}
 use Rattle.paper.specs.Calls.Call.{Open, OnDialogue, Receive}
 
@@ -32,23 +32,10 @@ begunRows rows = sumBy isBegun rows
 abbrev pub endedRows : List Row → ℕ
 endedRows rows = sumBy isEnded rows
 
--- "an end, user abort or Unidirectional request answered 0"
+-- "an end, user abort or Unidirectional request answered 0": each that frees its place, but the no-reaction timer, which has a row 6
 abbrev pub endsBy : Request → ℕ → ℕ
+endsBy r zero = cond (shapeOf r .frees) (cond (shapeOf r .rows) 0 1) 0
 endsBy r (suc n) = 0
-endsBy (Invoke id linked class op par) zero = 0
-endsBy (Result tag id op par) zero = 0
-endsBy (Error id err par) zero = 0
-endsBy (UserReject id p) zero = 0
-endsBy (Cancel id) zero = 0
-endsBy (Begin name info) zero = 0
-endsBy (Continue name info) zero = 0
-endsBy (End name info) zero = 1
-endsBy Prearranged zero = 1
-endsBy (Abort given) zero = 1
-endsBy (Unidirectional name info) zero = 1
-endsBy (Timeout id) zero = 0
-endsBy (RejectTimeout id) zero = 0
-endsBy NoReaction zero = 0
 
 -- "an open answered 0"
 abbrev pub openedBy : ℕ → ℕ

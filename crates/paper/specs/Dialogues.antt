@@ -11,6 +11,8 @@ use Rattle.paper.specs.declared.Reject.{Reject}
 use Rattle.paper.specs.declared.Control.{Control}
 use Rattle.paper.specs.declared.Row.{Row}
 use Rattle.paper.specs.Sizes.{mostInvocations, mostWaiting, mostRejects, depths, depthsFrom, nextTurn, idOctets}
+pub use Rattle.paper.specs.Records.{withState}
+use Rattle.paper.specs.Records.{withService, withPeerID, withRejects}
 use Rattle.paper.specs.Elements.{isElement}
 use Rattle.paper.specs.Problems.{senderOfProblem, byUser, kindOf, noProblem}
 use Rattle.paper.specs.Components.{Item, waitingItems, codeEnd, invokeTag, noFault}
@@ -71,31 +73,10 @@ freed x = emptyPlace (nextTurn (x .control .turn))
 
 -- a dialogue begun in a free place
 abbrev pub begun : ℕ → ℕ → ℕ → ℕ → List ℕ → Control
-begun turn state service peerlen peer = record {
-  turn = turn;
-  state = state;
-  service = service;
-  peerlen = peerlen;
-  peer = peer;
-  count = 0;
-  invocations = replicate mostInvocations noInvocation;
-  rejects = replicate mostRejects noReject;
-}
+begun turn state service peerlen peer = withPeerID (withService (withState (emptyControl turn) state) service) peerlen peer
 
 abbrev pub withControl : Place → Control → Place
 withControl x c = record { control = c; waiting = x .waiting }
-
-abbrev pub withState : Control → ℕ → Control
-withState c state = record {
-  turn = c .turn;
-  state = state;
-  service = c .service;
-  peerlen = c .peerlen;
-  peer = c .peer;
-  count = c .count;
-  invocations = c .invocations;
-  rejects = c .rejects;
-}
 
 -- the peer's ID: its octets
 abbrev pub peerOf : Control → List ℕ
@@ -225,16 +206,7 @@ unfoldable pub sentComponents : Place → Bool → List ℕ
 sentComponents x fits = ifB fits (x .waiting ++ waitingRejects (x .control)) (x .waiting)
 
 abbrev pub withoutRejects : Control → Control
-withoutRejects c = record {
-  turn = c .turn;
-  state = c .state;
-  service = c .service;
-  peerlen = c .peerlen;
-  peer = c .peer;
-  count = 0;
-  invocations = c .invocations;
-  rejects = replicate mostRejects noReject;
-}
+withoutRejects c = withRejects c 0 (replicate mostRejects noReject)
 
 -- what a sending leaves
 unfoldable pub afterSending : Place → Bool → ℕ → Place
@@ -294,6 +266,32 @@ pub data Request : Type 0 where
   Unidirectional : List ℕ → List ℕ → Request
   Timeout RejectTimeout : ℕ → Request
   NoReaction : Request
+
+-- WHAT A REQUEST TAKES AND GIVES: whether it takes a row space, for rows that it may give; whether it takes a message space, for a message that
+-- it may write; whether it frees the place
+pub record Shape : Type 0 where
+  pub rows : Bool
+  pub message : Bool
+  pub frees : Bool
+
+abbrev shape : Bool → Bool → Bool → Shape
+shape rows message frees = record { rows = rows; message = message; frees = frees }
+
+abbrev pub shapeOf : Request → Shape
+shapeOf (Invoke id linked class op par) = shape false false false
+shapeOf (Result tag id op par) = shape false false false
+shapeOf (Error id err par) = shape false false false
+shapeOf (UserReject id p) = shape false false false
+shapeOf (Cancel id) = shape false false false
+shapeOf (Begin name info) = shape false true false
+shapeOf (Continue name info) = shape false true false
+shapeOf (End name info) = shape false true true
+shapeOf Prearranged = shape false false true
+shapeOf (Abort given) = shape false true true
+shapeOf (Unidirectional name info) = shape false true true
+shapeOf (Timeout id) = shape true false false
+shapeOf (RejectTimeout id) = shape false false false
+shapeOf NoReaction = shape true false true
 
 -- its refusal from 6 on, 0 for none: "Where several apply, the lowest."
 unfoldable pub refusal : Place → Request → ℕ

@@ -1,6 +1,6 @@
 -- INVOCATION STATES (01, "Invocation states"; 003): what a request, a component or a timer does to a dialogue's invocations. Assumes nothing.
 use mathlib.Core.Bool.{Bool, true, false}
-use mathlib.Core.List.{List, map}
+use mathlib.Core.List.{List, [], _∷_, map}
 use Prim.Native.Nat.{ℕ, zero, _+_, _-_}
 use lib.ListN.{getD, set}
 use lib.Dec.{eqb}
@@ -11,6 +11,8 @@ use Rattle.paper.specs.declared.Invocation.{Invocation}
 use Rattle.paper.specs.declared.Reject.{Reject}
 use Rattle.paper.specs.declared.Control.{Control}
 use Rattle.paper.specs.declared.Acted.{Acted}
+pub use Rattle.paper.specs.Records.{inState, wasShown, withInvocations}
+use Rattle.paper.specs.Records.{withRejects}
 use Rattle.paper.specs.Problems.{senderOfProblem, byUser, problem, general, kindOf, noProblem}
 use Rattle.paper.specs.Kinds.{rowInvoke, rowLast, rowNotLast, rowError, rowUserReject, rowRemoteReject, rowRejected, rowNotStored}
 use Rattle.paper.specs.Components.{invokeTag, lastTag, errorTag, rejectTag, notLastTag, noID, noFault, ifRead}
@@ -35,6 +37,10 @@ rejecting = 4
 abbrev pub noInvocation : Invocation
 noInvocation = record { id = 0; class = 0; state = idle; shown = 0 }
 
+-- one that is passed: "Pending (passed)"
+abbrev pub newOne : ℕ → ℕ → Invocation
+newOne id class = record { id = id; class = class; state = pending; shown = 0 }
+
 -- ours of that ID, in any state but Idle
 unfoldable pub isOpen : ℕ → Invocation → Bool
 isOpen id v = ifEq (v .state) idle false (eqb (v .id) id)
@@ -55,69 +61,47 @@ invocationOf l id = getD l (slotOf l id) noInvocation
 abbrev pub stateOf : Control → ℕ → ℕ
 stateOf c id = invocationOf (c .invocations) id .state
 
-abbrev pub withInvocations : Control → List Invocation → Control
-withInvocations c l = record {
-  turn = c .turn;
-  state = c .state;
-  service = c .service;
-  peerlen = c .peerlen;
-  peer = c .peer;
-  count = c .count;
-  invocations = l;
-  rejects = c .rejects;
-}
-
 abbrev pub withInvocation : Control → ℕ → Invocation → Control
 withInvocation c i v = withInvocations c (set (c .invocations) i v)
 
-abbrev pub inState : Invocation → ℕ → Invocation
-inState v state = record { id = v .id; class = v .class; state = state; shown = v .shown }
-
--- the invocation of an ID goes to a state; every way to Idle is toIdle
+-- the invocation of an ID goes to a state in use
 unfoldable pub toState : Control → ℕ → ℕ → Control
 toState c id state =
     withInvocation c (slotOf (c .invocations) id) (inState (invocationOf (c .invocations) id) state)
 
+-- EVERY WAY TO IDLE; of some IDs, in their order
 unfoldable pub toIdle : Control → ℕ → Control
 toIdle c id = withInvocation c (slotOf (c .invocations) id) noInvocation
 
+unfoldable pub allIdle : Control → List ℕ → Control
+allIdle c [] = c
+allIdle c (id ∷ ids) = allIdle (toIdle c id) ids
+
 -- a new invocation, Pending, in the first slot that is Idle
 unfoldable pub passed : Control → ℕ → ℕ → Control
-passed c id class = withInvocation c (idleSlot (c .invocations)) (record { id = id; class = class; state = pending; shown = 0 })
+passed c id class = withInvocation c (idleSlot (c .invocations)) (newOne id class)
 
 -- a result not last was shown
 unfoldable pub notLastShown : Control → ℕ → Control
-notLastShown c id =
-    withInvocation c (slotOf (c .invocations) id)
-    (record {
-      id = invocationOf (c .invocations) id .id;
-      class = invocationOf (c .invocations) id .class;
-      state = invocationOf (c .invocations) id .state;
-      shown = 1;
-    })
+notLastShown c id = withInvocation c (slotOf (c .invocations) id) (wasShown (invocationOf (c .invocations) id))
 
--- a sending: Pending to Sent; "Rejecting until transmitted, then Idle"
+-- a sending: Pending to Sent, "Sent (transmitted)"; "Rejecting until transmitted, then Idle", in the order of their slots
 unfoldable pub transmitted : Invocation → Invocation
-transmitted v = ifEq (v .state) pending (inState v sent) (ifEq (v .state) rejecting noInvocation v)
+transmitted v = ifEq (v .state) pending (inState v sent) v
+
+unfoldable pub rejectingIDs : List Invocation → List ℕ
+rejectingIDs [] = []
+rejectingIDs (v ∷ l) = ifEq (v .state) rejecting (v .id ∷ rejectingIDs l) (rejectingIDs l)
 
 unfoldable pub allTransmitted : Control → Control
-allTransmitted c = withInvocations c (map transmitted (c .invocations))
+allTransmitted c = allIdle (withInvocations c (map transmitted (c .invocations))) (rejectingIDs (c .invocations))
 
 -- COMPONENTS RECEIVED, with the kinds of rows for them
 abbrev pub acted : Control → ℕ → ℕ → Acted
 acted c kind p = record { control = c; kind = kind; problem = p }
 
 abbrev pub withReject : Control → Reject → Control
-withReject c r = record {
-  turn = c .turn;
-  state = c .state;
-  service = c .service;
-  peerlen = c .peerlen;
-  peer = c .peer;
-  count = c .count + 1;
-  invocations = c .invocations;
-  rejects = set (c .rejects) (c .count) r;
-}
+withReject c r = withRejects c (c .count + 1) (set (c .rejects) (c .count) r)
 
 -- a reject of ours: stored, or not. "A ninth waiting reject, or one in Unidirectional or End, isn't stored": room is 8, there 0
 unfoldable pub rejected : ℕ → Control → ℕ → ℕ → Acted

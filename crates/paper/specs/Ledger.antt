@@ -24,9 +24,9 @@ use Rattle.paper.specs.Dialogues.Request.{Invoke, Result, Error, UserRej
 use Rattle.paper.specs.Calls.{Call, octetsAt, destinationNumber, itemsOf}
 use Rattle.paper.specs.Calls.Call.{Open, OnDialogue, Receive}
 use Rattle.paper.specs.Counting.{Notice, isEnded}
-use Rattle.paper.specs.Invocations.{noInvocation}
+use Rattle.paper.specs.Invocations.{noInvocation, newOne}
 use Rattle.paper.specs.Contents.{Wire}
-use Rattle.paper.specs.Asked.{becomes, newOne, userRejects, allSent, heardAll}
+use Rattle.paper.specs.Asked.{becomes, userRejects, allSent, heardAll}
 
 -- A DIALOGUE: the local ID that an open or a BEGIN row told, its service and state; the partner's ID (of the Begin received, or of the
 -- first Continue); the components passed and not yet sent; the rejects shown in rows 13 and not yet sent; our invocations in use

@@ -6,6 +6,7 @@ pub mod Components
 pub mod Messages
 pub mod Writing
 pub mod Portions
+pub mod Records
 pub mod Invocations
 pub mod Rows
 pub mod Shares

@@ -1,5 +1,6 @@
 -- THE OUTCOME OF A CALL AT OCTETS: what a contract says. Assumes nothing.
 use mathlib.Core.Path.{_≡_, sym, _∙_}
+use mathlib.Core.Bool.{cond}
 use mathlib.Core.List.{List, []}
 use Prim.Native.Nat.{ℕ, zero, suc}
 use lib.ListN.{length}
@@ -9,8 +10,7 @@ use Rattle.paper.specs.Sizes.{placesInAll, services, leastRows, leastSpa
 use Rattle.paper.specs.Portions.{portionRow, portionAt}
 use Rattle.paper.specs.Rows.{rowOctets, rowsOctets}
 use Rattle.paper.specs.Shares.{shared, sharesFit}
-use Rattle.paper.specs.Dialogues.{Request}
-use Rattle.paper.specs.Dialogues.Request.{Invoke, Result, Error, UserReject, Cancel, Begin, Continue, End, Prearranged, Abort, Unidirectional, Timeout, RejectTimeout, NoReaction}
+use Rattle.paper.specs.Dialogues.{Request, shapeOf}
 use Rattle.paper.specs.Calls.{Call, Out, step, freshTable}
 use Rattle.paper.specs.Calls.Call.{Open, OnDialogue, Receive}
 use Rattle.paper.specs.Layout.{tableSize, encode, view}
@@ -30,27 +30,11 @@ pub record Spaces : Type 0 where
 abbrev pub noSpace : Spaces
 noSpace = record { rows = 0; space = 0 }
 
-abbrev pub rowSpace : Spaces
-rowSpace = record { rows = leastRows; space = 0 }
-
 abbrev pub messageSpace : Spaces
 messageSpace = record { rows = 0; space = leastSpace }
 
 abbrev pub spacesOf : Request → Spaces
-spacesOf (Invoke id linked class op par) = noSpace
-spacesOf (Result tag id op par) = noSpace
-spacesOf (Error id err par) = noSpace
-spacesOf (UserReject id p) = noSpace
-spacesOf (Cancel id) = noSpace
-spacesOf (Begin name info) = messageSpace
-spacesOf (Continue name info) = messageSpace
-spacesOf (End name info) = messageSpace
-spacesOf Prearranged = noSpace
-spacesOf (Abort given) = messageSpace
-spacesOf (Unidirectional name info) = messageSpace
-spacesOf (Timeout id) = rowSpace
-spacesOf (RejectTimeout id) = noSpace
-spacesOf NoReaction = rowSpace
+spacesOf r = record { rows = cond (shapeOf r .rows) leastRows 0; space = cond (shapeOf r .message) leastSpace 0 }
 
 abbrev pub spacesFor : Call → Spaces
 spacesFor (Open service) = noSpace

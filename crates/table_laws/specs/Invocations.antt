@@ -113,32 +113,23 @@ pass-fine l id class f e a b =
 -- TRANSMITTED: every one of them
 transmitted-fine : (v : Invocation) → FineInvocation v → FineInvocation (transmitted v)
 unfolding transmitted
-transmitted-fine v f = go (eqb (v .state) 1) refl
-  where
-    sent : (v .state ≡ 1) → FineInvocation (inState v 2)
-    sent e = record { state = omega arith; least = λ h. f .least (λ z. omega arith); class = f .class; shown = f .shown; unused = λ h. absurd (omega arith) }
-
-    on : (b : Bool) → eqb (v .state) 4 ≡ b → FineInvocation (ifEq (v .state) 4 noInvocation v)
-    on true e = subst FineInvocation (eq (v .state) 4 noInvocation v (eqb-true (v .state) 4 e) refl) none-fine
-    on false e = subst FineInvocation (ne (v .state) 4 noInvocation v (eqb-false (v .state) 4 e) refl) f
-
-    go : (b : Bool) → eqb (v .state) 1 ≡ b → FineInvocation (ifEq (v .state) 1 (inState v 2) (ifEq (v .state) 4 noInvocation v))
-    go true e = subst FineInvocation (eq (v .state) 1 (inState v 2) (ifEq (v .state) 4 noInvocation v) (eqb-true (v .state) 1 e) refl) (sent (eqb-true (v .state) 1 e))
-    go false e = subst FineInvocation (ne (v .state) 1 (inState v 2) (ifEq (v .state) 4 noInvocation v) (eqb-false (v .state) 1 e) refl) (on (eqb (v .state) 4) refl)
+transmitted-fine v f =
+    by-eq {r = transmitted v} _ _ _ _ refl
+    (λ e z. subst FineInvocation (sym z)
+    (record { state = omega arith; least = λ h. f .least (λ z. omega arith); class = f .class; shown = f .shown; unused = λ h. absurd (omega arith) }))
+    (λ e z. subst FineInvocation (sym z) f)
 
 -- one in use was in use, under the same ID
 transmitted-same : (v : Invocation) → (transmitted v .state ≡ 0 → ⊥) → (v .state ≡ 0 → ⊥) × (transmitted v .id ≡ v .id)
 unfolding transmitted
 transmitted-same v u =
-    by-eq {r = transmitted v} (v .state) 1 (inState v 2) (ifEq (v .state) 4 noInvocation v) refl
+    by-eq {r = transmitted v} _ _ _ _ refl
     (λ e w. (λ z. absurd (omega arith), ap (λ (x : Invocation). x .id) w))
-    (λ n w. by-eq (v .state) 4 noInvocation v w
-    (λ e z. absurd (u (ap (λ (x : Invocation). x .state) z)))
-    (λ m z. (λ q. u (ap (λ (x : Invocation). x .state) z ∙ q), ap (λ (x : Invocation). x .id) z)))
+    (λ n w. (λ q. u (ap (λ (x : Invocation). x .state) w ∙ q), ap (λ (x : Invocation). x .id) w))
 
 pub none-same : transmitted noInvocation ≡ noInvocation
 unfolding transmitted
-none-same = sym (ne 0 1 (inState noInvocation 2) (ifEq 0 4 noInvocation noInvocation) (λ h. omega arith) (ne 0 4 noInvocation noInvocation (λ h. omega arith) refl))
+none-same = sym (ne _ _ _ _ (λ h. omega arith) refl)
 
 pub at-transmitted : (l : List Invocation) (j : ℕ) → At (map transmitted l) j ≡ transmitted (At l j)
 at-transmitted l j = sym (ap (getD (map transmitted l) j) none-same) ∙ List·getD-map transmitted l j noInvocation

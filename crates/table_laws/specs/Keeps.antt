@@ -1,21 +1,20 @@
 -- EACH CHANGE OF A CONTROL RECORD KEEPS THE RULES. Assumes nothing.
 use mathlib.Core.Path.{_≡_, refl, sym, ap, subst, _∙_}
 use mathlib.Core.Bool.{Bool, true, false}
-use mathlib.Core.List.{List}
+use mathlib.Core.List.{List, [], _∷_, map}
 use Prim.Native.Nat.{ℕ, _+_, _≤_, _<_}
 use native.Mathlib.Omega.{arith}
 use lib.Dec.{eqb, ltb}
 use borrow.Author.Tests.{eqb-true, eqb-false, ltb-true, ltb-false}
 use lib.ListN.{length, getD, set, length-set, length-map}
 use lib.Seq.{getD-set-same, getD-set-other}
-use Rattle.laws.specs.If.{ifEq, by-eq, was-eq}
+use Rattle.laws.specs.If.{ifEq, was-eq, ifB, was-yes}
 use Rattle.paper.specs.declared.Invocation.{Invocation}
 use Rattle.paper.specs.declared.Reject.{Reject}
 use Rattle.paper.specs.declared.Control.{Control}
-use Rattle.paper.specs.Invocations.{noInvocation, slotOf, idleSlot, invocationOf, stateOf, withInvocations, withInvocation, inState, toState, toIdle, passed, notLastShown, allTransmitted, withReject}
-use Rattle.paper.specs.Dialogues.{noReject, begun, withState, withoutRejects}
+use Rattle.paper.specs.Invocations.{noInvocation, slotOf, idleSlot, invocationOf, stateOf, withInvocations, withInvocation, inState, toState, toIdle, allIdle, passed, notLastShown, transmitted, rejectingIDs, allTransmitted, withReject}
+use Rattle.paper.specs.Dialogues.{noReject, begun, withState, withoutRejects, hasPeer}
 use Rattle.paper.specs.Calls.{withPeer}
-use Rattle.paper.specs.Dialogues.{hasPeer}
 use Rattle.table_laws.specs.Fine.{FineInvocation, FineInvocations, FineReject, FineRejects, FinePeer, FineControl}
 use Rattle.table_laws.specs.Slots.{empty-fine}
 use Rattle.table_laws.specs.Invocations.{idle-fine, same-id-fine, found-open, pass-fine, all-transmitted-fine}
@@ -29,9 +28,8 @@ peers = (refl, refl, refl, refl)
 pub begin-peer : (state : ℕ) → _≡_ {A = ℕ} 0 (ifEq state 1 0 6) → hasPeer 2 ≡ hasPeer state
 begin-peer state e = peers .1 ∙ sym (ap hasPeer (was-eq _ _ _ _ e (λ z. omega arith) .0) ∙ peers .0)
 
-pub continue-peer : (state : ℕ) → _≡_ {A = ℕ} 0 (ifEq state 3 0 (ifEq state 4 0 6)) → hasPeer 4 ≡ hasPeer state
-continue-peer state e =
-    by-eq _ _ _ _ e (λ a z. peers .3 ∙ sym (ap hasPeer a ∙ peers .2)) (λ a z. sym (ap hasPeer (was-eq _ _ _ _ z (λ z. omega arith) .0)))
+pub continue-peer : (state : ℕ) → _≡_ {A = ℕ} 0 (ifB (hasPeer state) 0 6) → hasPeer 4 ≡ hasPeer state
+continue-peer state e = peers .3 ∙ sym (was-yes _ _ _ e (λ z. omega arith) .0)
 
 -- A NEW DIALOGUE
 pub begun-fine : (turn state service peerlen : ℕ) (peer : List ℕ) → turn < 16777216 → state < 5 → service < 16 → length peer ≡ 4
@@ -139,10 +137,6 @@ module _ (c : Control) (f : FineControl c) where
       let g = one-fine id n in
       changed-fine id _ n (record { state = g .state; least = λ h. g .least n; class = g .class; shown = omega arith; unused = λ h. absurd (n h) }) refl
 
-  pub transmitted-fine : FineControl (allTransmitted c)
-  unfolding allTransmitted
-  transmitted-fine = invocations-fine _ (length-map (c .invocations) _ ∙ f .eight) (all-transmitted-fine (c .invocations) (f .invocations))
-
   -- one more reject waits
   pub with-reject-fine : (r : Reject) → c .count < 8 → FineReject r → FineControl (withReject c r)
   with-reject-fine r h g =
@@ -163,3 +157,25 @@ module _ (c : Control) (f : FineControl c) where
       rest i a b =
           getD-set-other (c .rejects) (c .count) i r noReject (λ e. omega arith)
           ∙ f .rejects .rest i (omega arith) (omega (arith, length-set (c .rejects) (c .count) r))
+
+-- A SENDING: some go to Idle, one by one, and only the invocations change
+pub all-idle-fine : (ids : List ℕ) (c : Control) → FineControl c → FineControl (allIdle c ids)
+unfolding allIdle
+all-idle-fine [] c f = f
+all-idle-fine (id ∷ ids) c f = all-idle-fine ids (toIdle c id) (to-idle-fine c f id)
+
+pub sent-fine : (c : Control) → FineControl c → FineControl (withInvocations c (map transmitted (c .invocations)))
+sent-fine c f = invocations-fine c f _ (length-map (c .invocations) _ ∙ f .eight) (all-transmitted-fine (c .invocations) (f .invocations))
+
+pub transmitted-fine : (c : Control) → FineControl c → FineControl (allTransmitted c)
+unfolding allTransmitted
+transmitted-fine c f = all-idle-fine (rejectingIDs (c .invocations)) _ (sent-fine c f)
+
+idle-only : (ids : List ℕ) (c : Control) (state : ℕ) → allIdle (withState c state) ids ≡ withState (withInvocations c (allIdle c ids .invocations)) state
+unfolding allIdle toIdle
+idle-only [] c state = refl
+idle-only (id ∷ ids) c state = idle-only ids (toIdle c id) state
+
+pub sent-only : (c : Control) (state : ℕ) → allTransmitted (withState c state) ≡ withState (withInvocations c (allTransmitted c .invocations)) state
+unfolding allTransmitted
+sent-only c = idle-only (rejectingIDs (c .invocations)) (withInvocations c (map transmitted (c .invocations)))

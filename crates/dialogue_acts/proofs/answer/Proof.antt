@@ -14,7 +14,7 @@ state-at-requires : tie.Need-state-at-requires
 state-at-requires c κs = search needs
 
 answer-sent-requires : tie.Need-answer-sent-requires
-answer-sent-requires c κs = c .before .state-at .ensures .1 (omega arith)
+answer-sent-requires c κs = let s = c .before .state-at .ensures in (s .1 (omega arith), sym (s .0) ∙ c .if1 .taken)
 
 returns : tie.Need-returns
 unfolding answers

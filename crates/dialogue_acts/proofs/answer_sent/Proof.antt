@@ -26,19 +26,13 @@ returns c = let b = c .before .before .before in
 answer-kind-requires : tie.Need-answer-kind-requires
 answer-kind-requires c κs = search needs
 
-moved-requires : tie.Need-moved-requires
-moved-requires c κs = search needs
-
 returns-2 : tie.Need-returns-2
-returns-2 c = let b = c .before .before in
-    (λ room id d e s q. sent-shown d id _ _ e s (omega arith) room _ _ _ (b .before .before .takes .ensures) _ (c .moved .ensures) (b .answer-kind .ensures .0) (b .answer-kind .ensures .1) (c .before .if2 .taken), λ h. absurd (omega arith))
-
-moved-requires-2 : tie.Need-moved-requires-2
-moved-requires-2 c κs = search needs
+returns-2 c = let b = c .before in
+    (λ room id d e s q. sent-shown d id _ _ e s (omega arith) room _ _ _ (b .before .before .takes .ensures) (b .before .before .before .before .pre .1) (b .answer-kind .ensures .0) (b .answer-kind .ensures .1) (c .if2 .taken), λ h. absurd (omega arith))
 
 returns-3 : tie.Need-returns-3
-returns-3 c = let b = c .before .before in
-    (λ room id d e s q. sent-waits d id _ _ e s (omega arith) room _ _ _ (b .before .before .takes .ensures) _ (c .moved2 .ensures) (b .answer-kind .ensures .0) (b .answer-kind .ensures .1) (b .before .if1 .left) (c .before .if2 .left), λ h. absurd (omega arith))
+returns-3 c = let b = c .before in
+    (λ room id d e s q. sent-waits d id _ _ e s (omega arith) room _ _ _ (b .before .before .takes .ensures) (b .answer-kind .ensures .0) (b .answer-kind .ensures .1) (b .before .if1 .left) (c .if2 .left), λ h. absurd (omega arith))
 
 pub answer-sent-spec : {M : Type 1} → statement M
 answer-sent-spec =
@@ -51,7 +45,5 @@ answer-sent-spec =
     no-invocation-requires
     returns
     answer-kind-requires
-    moved-requires
     returns-2
-    moved-requires-2
     returns-3)

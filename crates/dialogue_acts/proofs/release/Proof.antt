@@ -17,7 +17,7 @@ no-invocation-requires c κs = search needs
 
 returns : tie.Need-returns
 returns c = let b = c .before .before in
-    (λ d e. release-put d _ _ _ e (b .before .slot-of .ensures .0) (b .state-at .ensures .1 (omega arith)) _ _ (b .state-at .ensures .0) (c .before .if1 .taken) (c .no-invocation .ensures), (refl, refl))
+    (λ d e. release-put d _ _ _ e (b .before .slot-of .ensures .0) (b .state-at .ensures .1 (omega arith)) _ _ _ (c .no-invocation .ensures) _ (b .state-at .ensures .0) (c .before .if1 .taken), (refl, refl))
 
 stays-requires : tie.Need-stays-requires
 stays-requires c κs = search needs

@@ -21,7 +21,8 @@ use Rattle.table_laws.specs.Counts.{lowest-is-free}
 use Rattle.table_laws.specs.Owners.{owned-is}
 use Rattle.demand_kept.specs.Shared.{lowest-there}
 use Rattle.demand_kept.specs.Requests.{Formed}
-use Rattle.demand_kept.specs.Steps.{WellFormed, does-answers}
+use Rattle.demand_kept.specs.Shapes.{does-answers}
+use Rattle.demand_kept.specs.StepKept.{WellFormed}
 use Rattle.demand_kept.specs.Fresh.{none-held}
 use Rattle.demand_ledger.specs.Ours.{ours-none}
 use Rattle.demand_ledger.specs.Agrees.{Agrees, owned-found, agrees-begun}

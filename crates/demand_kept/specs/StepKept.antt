@@ -16,9 +16,8 @@ use Rattle.paper.specs.Problems.{noProblem}
 use Rattle.paper.specs.Messages.{messageOf, isSound, beginTag, continueTag, noRun}
 use Rattle.paper.specs.Kinds.{rowUni, rowBegin, rowContinue, rowEnd, rowUserAbort, rowAbort}
 use Rattle.paper.specs.Rows.{allActed, componentRows, dialogueRow, cancelRow}
-use Rattle.paper.specs.Dialogues.{Place, Request, Invoke, Result, Error, UserReject, Cancel, Begin, Continue, End, Prearranged, Abort, Unidirectional, Timeout, RejectTimeout, NoReaction, Done, emptyControl, begun, freed, withControl, timeoutRows, unlessRefused, refusal, does, request}
+use Rattle.paper.specs.Dialogues.{Place, Request, Timeout, Done, emptyControl, begun, freed, withControl, timeoutRows, unlessRefused, refusal, does, request, hasPeer}
 use Rattle.paper.specs.Calls.{Table, placeAt, withPlace, lowestFree, Out, stored, requested, opened, octetsAt, destinationNumber, assigned, faultedAt, faulted, itemsOf, uniReceived, begunControl, beginAt, beginReceived, continuedControl, continueReceived, endReceived, abortReceived, toDialogue, soundReceived, received, receivedIf, Call, Open, OnDialogue, Receive, refuse, ofService, step}
-use Rattle.paper.specs.Dialogues.{hasPeer}
 use Rattle.reading_messages.specs.Bounds.{MessageIn, message-in}
 use Rattle.table_laws.specs.Fine.{Octets, FinePeer, FineControl, Fine}
 use Rattle.table_laws.specs.Zeros.{zeros-of, pad-length, pad-rest}
@@ -27,54 +26,26 @@ use Rattle.demand_kept.specs.Leaves.{whether-eq}
 use Rattle.demand_kept.specs.Acts.{AllReadable, all-acted-stays, components-readable}
 use Rattle.table_laws.specs.Keeps.{peers, begun-fine, with-peer-fine}
 use Rattle.demand_kept.specs.Requests.{place-fine, control-goes-on, Formed, frees, Leaves, does-kept}
+use Rattle.demand_kept.specs.Shapes.{by-shape, does-answers}
 use Rattle.paper.specs.Counting.{toldBy, isBegun, isEnded, begunRows, endedRows, endsBy, serviceOf, begunBy, endedBy}
 use Rattle.demand_kept.specs.Counted.{row-begun, row-ended, row-other, components-none}
 use Rattle.demand_kept.specs.Shared.{Moved, moved-as, not-moved, moved-freed, moved-on, moved-taken, lowest-there}
 
--- A REQUEST THAT IS DONE answers 0, begins nothing, and ends a dialogue where it frees the place
-pub does-answers : (me : ℕ) (x : Place) (r : Request) → does me x r .answer ≡ 0
-unfolding does
-does-answers me x (Invoke id linked class op par) = refl
-does-answers me x (Result tag id op par) = refl
-does-answers me x (Error id err par) = refl
-does-answers me x (UserReject id p) = refl
-does-answers me x (Cancel id) = refl
-does-answers me x (Begin name info) = refl
-does-answers me x (Continue name info) = refl
-does-answers me x (End name info) = refl
-does-answers me x Prearranged = refl
-does-answers me x (Abort given) = refl
-does-answers me x (Unidirectional name info) = refl
-does-answers me x (Timeout id) = refl
-does-answers me x (RejectTimeout id) = refl
-does-answers me x NoReaction = refl
+-- A REQUEST THAT IS DONE begins nothing, and ends a dialogue where it frees the place
+abbrev Ends : Request → List Row → Type 0
+Ends r rows = (begunRows rows ≡ 0) × (endedRows rows + endsBy r 0 ≡ cond (frees r) 1 0)
 
-abbrev Told : Request → List Row → Type 0
-Told r rows = (begunRows rows ≡ 0) × (endedRows rows + endsBy r 0 ≡ cond (frees r) 1 0)
-
-timeout-told : (me : ℕ) (x : Place) (id : ℕ) → Told (Timeout id) (timeoutRows me x id)
+timeout-told : (me : ℕ) (x : Place) (id : ℕ) → Ends (Timeout id) (timeoutRows me x id)
 unfolding timeoutRows
 timeout-told me x id =
     let w = row-other (cancelRow me id) (λ z. omega arith) (λ z. omega arith) (λ z. omega arith) (λ z. omega arith) in
-    whether-eq (Told (Timeout id)) _ _ _ _ (refl, refl) (omega arith, omega arith)
+    whether-eq (Ends (Timeout id)) _ _ _ _ (refl, refl) (omega arith, omega arith)
 
-does-told : (me : ℕ) (x : Place) (r : Request) → Told r (does me x r .rows)
-unfolding does
-does-told me x (Invoke id linked class op par) = (refl, refl)
-does-told me x (Result tag id op par) = (refl, refl)
-does-told me x (Error id err par) = (refl, refl)
-does-told me x (UserReject id p) = (refl, refl)
-does-told me x (Cancel id) = (refl, refl)
-does-told me x (Begin name info) = (refl, refl)
-does-told me x (Continue name info) = (refl, refl)
-does-told me x (End name info) = (refl, refl)
-does-told me x Prearranged = (refl, refl)
-does-told me x (Abort given) = (refl, refl)
-does-told me x (Unidirectional name info) = (refl, refl)
-does-told me x (Timeout id) = timeout-told me x id
-does-told me x (RejectTimeout id) = (refl, refl)
-does-told me x NoReaction =
-    let w = row-ended (dialogueRow rowAbort me noProblem noRun 0) (omega arith) (omega arith) in (omega arith, omega arith)
+does-told : (me : ℕ) (x : Place) (r : Request) → Ends r (does me x r .rows)
+does-told me x =
+    let w = row-ended (dialogueRow rowAbort me noProblem noRun 0) (omega arith) (omega arith) in
+    by-shape me x (λ r o. Ends r (o .rows)) (λ r y m e. (refl, subst (λ (t : Bool). 0 + cond (frees r) (cond t 0 1) 0 ≡ cond (frees r) 1 0) (sym e) (omega arith)))
+    (λ id y. timeout-told me x id) (λ y. (omega arith, omega arith))
 
 -- WHAT A CALL LEFT, as it is counted
 abbrev pub Left : Table → Call → Out → Type 0
