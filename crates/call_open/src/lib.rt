@@ -1,11 +1,15 @@
 // The table's size, a fresh table, and the request that takes a place (01, "Dialogue states": "Open takes a place").
+use call_entry::NO_SPACE;
 use call_entry::Reply;
+use paper::DIALOGUE_OPEN;
 use paper::GUARANTEES;
 use paper::LIMITS;
+use paper::SERVICES;
 use paper::TABLE_OCTETS;
 ghost use mathlib.Core.Path.{_≡_};
 ghost use mathlib.Core.List.{[]};
 ghost use lib.ListN.{length};
+ghost use Rattle.paper.specs.Sizes.{services};
 ghost use Rattle.paper.specs.Dialogues.{begun};
 ghost use Rattle.paper.specs.Calls.{freshTable};
 ghost use Rattle.paper.specs.Calls.Call.{Open};
@@ -25,10 +29,10 @@ fn fresh_answer(t: &[u8], g: &[u8], l: &[u8]) -> u32
     if t.len() != TABLE_OCTETS {
         return 1;
     }
-    if g.len() != 16 {
+    if g.len() != SERVICES {
         return 1;
     }
-    if l.len() != 16 {
+    if l.len() != SERVICES {
         return 1;
     }
     if table_shares::shares_fit(g, l) {
@@ -39,7 +43,7 @@ fn fresh_answer(t: &[u8], g: &[u8], l: &[u8]) -> u32
 
 // The empty table of those shares: every place free, every turn 0.
 fn lay_out(t: &mut [u8], g: &[u8], l: &[u8])
-    requires { ⌜ (length (now t) ≡ 36400) × (length (now g) ≡ 16) × (length (now l) ≡ 16) ⌝ }
+    requires { ⌜ (length (now t) ≡ tableSize) × (length (now g) ≡ services) × (length (now l) ≡ services) ⌝ }
     ensures { λ r. ⌜ now (t .exit) ≡ encode (freshTable (now (g .entry)) (now (l .entry))) ⌝ }
 {
     let map: [u8; 16] = [255; 16];
@@ -65,7 +69,7 @@ pub fn fresh(table: &mut [u8], guarantees: &[u8], limits: &[u8]) -> Reply
 pub fn open(table: &mut [u8], service: u32) -> Reply
     ensures { λ r. ⌜ Gives (outcome (record { table = now (table .entry); rows = []; space = [] }) (Open service)) (r .answer) (r .rows) (r .length) (r .dialogue) (record { table = now (table .exit); rows = []; space = [] }) ⌝ }
 {
-    let e = call_entry::enter(table, service);
+    let e = call_entry::enter(table, NO_SPACE, NO_SPACE, service);
     let answer = e.answer;
     if answer != 0 {
         return call_entry::refused(answer);
@@ -76,7 +80,7 @@ pub fn open(table: &mut [u8], service: u32) -> Reply
         let id = table_places::id_at(table, p);
         let turn = table_places::turn_at(table, p);
         let none: [u8; 4] = [0; 4];
-        let c = table_places::begun(turn, 1, service as u8, 0, none);
+        let c = table_places::begun(turn, DIALOGUE_OPEN, service as u8, 0, none);
         table_places::begin_at(table, p, c);
         return Reply {
             answer: 0,

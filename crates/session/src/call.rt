@@ -1,5 +1,6 @@
 // A line as a call, by its number of fields and its verb.
 use call_entry::Reply;
+use call_send::Sending;
 use program_fields::Number;
 use program_fields::Pair;
 
@@ -64,7 +65,7 @@ fn begin(table: &mut [u8], space: &mut [u8], line: &[u8]) -> Played {
     let d = program_fields::dialogue(part(line, 2));
     if s.ok && d.ok {
         let none = &line[0..0];
-        let r = call_send::send_begin(table, s.value, d.value, none, none, space);
+        let r = call_send::send(table, s.value, d.value, Sending::ABegin, none, none, space);
         return about(r, true, d.value);
     }
     unread()
