@@ -24,9 +24,15 @@ told {o} {q} {r} e d f = record {
   left = f ∙ ap (λ (x : Outcome). x .lent) (sym e);
 }
 
--- what is lent where a call takes no space
+-- what is lent where a call takes no space, a row space, a message space
 abbrev pub only : List ℕ → Lent
 only t = record { table = t; rows = []; space = [] }
+
+abbrev pub withRows : List ℕ → List ℕ → Lent
+withRows t rows = record { table = t; rows = rows; space = [] }
+
+abbrev pub withSpace : List ℕ → List ℕ → Lent
+withSpace t space = record { table = t; rows = []; space = space }
 
 -- a table that another call left as it was
 pub left-as : {o : Outcome} {r : Reply} {l : Lent} {t : List ℕ} → t ≡ l .table → Told o r l → Told o r (record { table = t; rows = l .rows; space = l .space })

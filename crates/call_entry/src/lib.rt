@@ -1,11 +1,15 @@
 // What every call begins with and ends in: the numbers 1, 2, 3 and 5 in this order, and the reply.
 use paper::GUARANTEES;
+use paper::LEAST_ROWS;
+use paper::LEAST_SPACE;
 use paper::LIMITS;
 use paper::PLACES;
+use paper::SERVICES;
+use paper::TURNS;
 ghost use mathlib.Core.Path.{_≡_};
 ghost use Rattle.paper.specs.Sizes.{octetOf};
 ghost use Rattle.call_entry.specs.Replies.{reply};
-ghost use Rattle.call_entry.specs.Prologue.{Enters, Meets};
+ghost use Rattle.call_entry.specs.Prologue.{spaces, Enters, Meets};
 
 // What the host is told (docs, "The interface to the C host"): at any answer but 0 the other three are 0.
 #[repr(C)]
@@ -50,11 +54,28 @@ pub fn octet_of(id: i8) -> u8
     return id as u8;
 }
 
-fn wide(x: u8) -> u32
-    ensures { λ r. ⌜ r ≡ x ⌝ }
-{
-    x as u32
+// Octets of row space and of message space: those lent to a call, or the least that it takes, 0 where it takes none.
+pub struct Spaces {
+    pub rows: usize,
+    pub space: usize,
 }
+
+pub const NO_SPACE: Spaces = Spaces { rows: 0, space: 0 };
+
+pub const ROW_SPACE: Spaces = Spaces {
+    rows: LEAST_ROWS,
+    space: 0,
+};
+
+pub const MESSAGE_SPACE: Spaces = Spaces {
+    rows: 0,
+    space: LEAST_SPACE,
+};
+
+pub const BOTH_SPACES: Spaces = Spaces {
+    rows: LEAST_ROWS,
+    space: LEAST_SPACE,
+};
 
 pub struct Entered {
     pub answer: u32,
@@ -62,9 +83,21 @@ pub struct Entered {
 }
 
 // The prologue of every call: 1, 2, 3 or 0, and whether the share rule gives the service a place.
-pub fn enter(t: &[u8], service: u32) -> Entered
-    ensures { λ r. ⌜ Enters (now (t .entry)) service (r .answer) (r .may) ⌝ }
+pub fn enter(t: &[u8], lent: Spaces, least: Spaces, service: u32) -> Entered
+    ensures { λ r. ⌜ Enters (now (t .entry)) (spaces lent) (spaces least) service (r .answer) (r .may) ⌝ }
 {
+    if lent.rows < least.rows {
+        return Entered {
+            answer: 1,
+            may: false,
+        };
+    }
+    if lent.space < least.space {
+        return Entered {
+            answer: 1,
+            may: false,
+        };
+    }
     let c = table_rules::check(t);
     let answer = c.answer;
     if answer != 0 {
@@ -73,15 +106,15 @@ pub fn enter(t: &[u8], service: u32) -> Entered
             may: false,
         };
     }
-    if service >= 16 {
+    let i = service as usize;
+    if i >= SERVICES {
         return Entered {
             answer: 3,
             may: false,
         };
     }
-    let i = service as usize;
     let counts = c.counts;
-    let count = wide(counts[i]);
+    let count = laws::number(counts[i]);
     let share = table_shares::share_at(&t[GUARANTEES..LIMITS], &t[LIMITS..PLACES], i);
     let guarantee = share.guarantee;
     let limit = share.limit;
@@ -98,10 +131,10 @@ pub struct Met {
 }
 
 // The prologue of a call on a dialogue: 5 too, and the dialogue's place.
-pub fn enter_at(t: &[u8], service: u32, dialogue: u32) -> Met
-    ensures { λ r. ⌜ Meets (now (t .entry)) service dialogue (r .answer) (r .place) ⌝ }
+pub fn enter_at(t: &[u8], lent: Spaces, least: Spaces, service: u32, dialogue: u32) -> Met
+    ensures { λ r. ⌜ Meets (now (t .entry)) (spaces lent) (spaces least) service dialogue (r .answer) (r .place) ⌝ }
 {
-    let e = enter(t, service);
+    let e = enter(t, lent, least, service);
     let answer = e.answer;
     if answer != 0 {
         return Met {
@@ -110,7 +143,7 @@ pub fn enter_at(t: &[u8], service: u32, dialogue: u32) -> Met
         };
     }
     if table_places::owner(t, service, dialogue) {
-        let p = (dialogue / 16777216) as usize;
+        let p = (dialogue / TURNS) as usize;
         return Met {
             answer: 0,
             place: p,

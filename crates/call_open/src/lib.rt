@@ -1,5 +1,7 @@
 // The table's size, a fresh table, and the request that takes a place (01, "Dialogue states": "Open takes a place").
+use call_entry::NO_SPACE;
 use call_entry::Reply;
+use paper::DIALOGUE_OPEN;
 use paper::GUARANTEES;
 use paper::LIMITS;
 use paper::MAP;
@@ -68,7 +70,7 @@ pub fn fresh(table: &mut [u8], guarantees: &[u8], limits: &[u8]) -> Reply
 pub fn open(table: &mut [u8], service: u32) -> Reply
     ensures { λ r. ⌜ Gives (outcome (record { table = now (table .entry); rows = []; space = [] }) (Open service)) (r .answer) (r .rows) (r .length) (r .dialogue) (record { table = now (table .exit); rows = []; space = [] }) ⌝ }
 {
-    let e = call_entry::enter(table, service);
+    let e = call_entry::enter(table, NO_SPACE, NO_SPACE, service);
     let answer = e.answer;
     if answer != 0 {
         return call_entry::refused(answer);
@@ -79,7 +81,7 @@ pub fn open(table: &mut [u8], service: u32) -> Reply
         let id = table_places::id_at(table, p);
         let turn = table_places::turn_at(table, p);
         let none: [u8; 4] = [0; 4];
-        let c = table_places::begun(turn, 1, service as u8, 0, none);
+        let c = table_places::begun(turn, DIALOGUE_OPEN, service as u8, 0, none);
         table_places::begin_at(table, p, c);
         return Reply {
             answer: 0,

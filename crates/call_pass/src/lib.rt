@@ -1,13 +1,22 @@
 // Components passed to a dialogue (01, "Dialogue states", "Invocation states"): refused by a number, or written after those that wait,
 // straight into the table.
+use call_entry::NO_SPACE;
 use call_entry::Reply;
 use paper::Control;
+use paper::DIALOGUE_OPEN;
 use paper::FIRST_WAITING;
+use paper::IDLE;
+use paper::MOST_INVOCATIONS;
+use paper::MOST_WAITING;
+use paper::NO_ID;
 use paper::PLACE_OCTETS;
+use paper::REJECTING;
 ghost use mathlib.Core.Path.{_≡_};
 ghost use mathlib.Core.List.{[], _++_};
 ghost use Prim.Native.Nat.{_<_, _≤_};
 ghost use lib.ListN.{length};
+ghost use Rattle.paper.specs.Sizes.{mostWaiting};
+ghost use Rattle.paper.specs.Components.{noID};
 ghost use Rattle.paper.specs.Problems.{kindOf};
 ghost use Rattle.paper.specs.Writing.{invokeOctets, resultOctets, errorOctets, rejectOctets};
 ghost use Rattle.paper.specs.Invocations.{slotOf};
@@ -32,7 +41,7 @@ fn put_invoke(
     op: &[u8],
     par: &[u8],
 )
-    requires { ⌜ Appending (now t) p c n (invokeOctets id linked (now op) (now par)) × (linked ≤ 256) ⌝ }
+    requires { ⌜ Appending (now t) p c n (invokeOctets id linked (now op) (now par)) × (linked ≤ noID) ⌝ }
     ensures { λ r. ⌜ now (t .exit) ≡ encode (withPlace (view (now (t .entry))) p (withWaiting c (placeAt (view (now (t .entry))) p .waiting ++ invokeOctets id linked (now (op .entry)) (now (par .entry))))) ⌝ }
 {
     let a = FIRST_WAITING + p * PLACE_OCTETS;
@@ -71,7 +80,7 @@ fn put_reject(t: &mut [u8], p: usize, c: Control, n: usize, id: u8, problem: u32
 fn front_of(linked: u32) -> usize
     ensures { λ r. ⌜ r ≡ frontOf linked ⌝ }
 {
-    if linked == 256 {
+    if linked == NO_ID {
         return 3;
     }
     return 6;
@@ -86,7 +95,7 @@ fn invoke_refusal(
     op: &[u8],
     par: &[u8],
 ) -> u32
-    requires { ⌜ n ≤ 240 ⌝ }
+    requires { ⌜ n ≤ mostWaiting ⌝ }
     ensures { λ r. ⌜ ((x : Place) → x .control ≡ c → length (x .waiting) ≡ n → r ≡ invokeRefusal x id linked class (now (op .entry)) (now (par .entry))) ⌝ }
 {
     if class < 1 {
@@ -97,11 +106,11 @@ fn invoke_refusal(
     }
     let l = c.invocations;
     let state = dialogue_invocations::state_of(l, id as u32);
-    if state != 0 {
+    if state != IDLE {
         return 9;
     }
     let i = dialogue_invocations::idle_slot(l);
-    if i == 8 {
+    if i == MOST_INVOCATIONS {
         return 10;
     }
     let front = front_of(linked);
@@ -109,30 +118,30 @@ fn invoke_refusal(
 }
 
 fn result_refusal(c: Control, n: usize, tag: u8, id: u8, op: &[u8], par: &[u8]) -> u32
-    requires { ⌜ n ≤ 240 ⌝ }
+    requires { ⌜ n ≤ mostWaiting ⌝ }
     ensures { λ r. ⌜ ((x : Place) → x .control ≡ c → length (x .waiting) ≡ n → r ≡ resultRefusal x tag id (now (op .entry)) (now (par .entry))) ⌝ }
 {
-    if c.state == 1 {
+    if c.state == DIALOGUE_OPEN {
         return 6;
     }
     return call_given::both_refusal(n, op, par);
 }
 
 fn error_refusal(c: Control, n: usize, id: u8, err: &[u8], par: &[u8]) -> u32
-    requires { ⌜ n ≤ 240 ⌝ }
+    requires { ⌜ n ≤ mostWaiting ⌝ }
     ensures { λ r. ⌜ ((x : Place) → x .control ≡ c → length (x .waiting) ≡ n → r ≡ errorRefusal x id (now (err .entry)) (now (par .entry))) ⌝ }
 {
-    if c.state == 1 {
+    if c.state == DIALOGUE_OPEN {
         return 6;
     }
     return call_given::pieces_refusal(n, 3, err, par);
 }
 
 fn reject_refusal(c: Control, n: usize, id: u8, problem: u32) -> u32
-    requires { ⌜ n ≤ 240 ⌝ }
+    requires { ⌜ n ≤ mostWaiting ⌝ }
     ensures { λ r. ⌜ ((x : Place) → x .control ≡ c → length (x .waiting) ≡ n → r ≡ rejectRefusal x id problem) ⌝ }
 {
-    if c.state == 1 {
+    if c.state == DIALOGUE_OPEN {
         return 6;
     }
     if reading_problems::sender(problem / 256, problem % 256) != 1 {
@@ -141,7 +150,7 @@ fn reject_refusal(c: Control, n: usize, id: u8, problem: u32) -> u32
     let l = c.invocations;
     let v = dialogue_invocations::invocation_of(l, id as u32);
     if dialogue_invocations::may_reject(problem / 256, v) {
-        if n + 8 > 240 {
+        if n + 8 > MOST_WAITING {
             return 12;
         }
         return 0;
@@ -159,7 +168,7 @@ fn rejected_by(c: Control, id: u8, problem: u32) -> Control
     }
     let l = c.invocations;
     let i = dialogue_invocations::slot_of(l, id as u32);
-    return dialogue_invocations::to_state(c, id as u32, i, 4);
+    return dialogue_invocations::to_state(c, id as u32, i, REJECTING);
 }
 
 // ---- THE CALLS. An invoke; linked is 256 for none.
@@ -173,10 +182,10 @@ pub fn invoke(
     operation: &[u8],
     parameter: &[u8],
 ) -> Reply
-    requires { ⌜ linked ≤ 256 ⌝ }
+    requires { ⌜ linked ≤ noID ⌝ }
     ensures { λ r. ⌜ Gives (outcome (record { table = now (table .entry); rows = []; space = [] }) (OnDialogue service dialogue (Invoke id linked class (now (operation .entry)) (now (parameter .entry))))) (r .answer) (r .rows) (r .length) (r .dialogue) (record { table = now (table .exit); rows = []; space = [] }) ⌝ }
 {
-    let m = call_entry::enter_at(table, service, dialogue);
+    let m = call_entry::enter_at(table, NO_SPACE, NO_SPACE, service, dialogue);
     let answer = m.answer;
     if answer != 0 {
         return call_entry::refused(answer);
@@ -207,7 +216,7 @@ pub fn result(
 ) -> Reply
     ensures { λ r. ⌜ Gives (outcome (record { table = now (table .entry); rows = []; space = [] }) (OnDialogue service dialogue (Result tag id (now (operation .entry)) (now (parameter .entry))))) (r .answer) (r .rows) (r .length) (r .dialogue) (record { table = now (table .exit); rows = []; space = [] }) ⌝ }
 {
-    let m = call_entry::enter_at(table, service, dialogue);
+    let m = call_entry::enter_at(table, NO_SPACE, NO_SPACE, service, dialogue);
     let answer = m.answer;
     if answer != 0 {
         return call_entry::refused(answer);
@@ -233,7 +242,7 @@ pub fn error(
 ) -> Reply
     ensures { λ r. ⌜ Gives (outcome (record { table = now (table .entry); rows = []; space = [] }) (OnDialogue service dialogue (Error id (now (error .entry)) (now (parameter .entry))))) (r .answer) (r .rows) (r .length) (r .dialogue) (record { table = now (table .exit); rows = []; space = [] }) ⌝ }
 {
-    let m = call_entry::enter_at(table, service, dialogue);
+    let m = call_entry::enter_at(table, NO_SPACE, NO_SPACE, service, dialogue);
     let answer = m.answer;
     if answer != 0 {
         return call_entry::refused(answer);
@@ -252,7 +261,7 @@ pub fn error(
 pub fn reject(table: &mut [u8], service: u32, dialogue: u32, id: u8, problem: u32) -> Reply
     ensures { λ r. ⌜ Gives (outcome (record { table = now (table .entry); rows = []; space = [] }) (OnDialogue service dialogue (UserReject id problem))) (r .answer) (r .rows) (r .length) (r .dialogue) (record { table = now (table .exit); rows = []; space = [] }) ⌝ }
 {
-    let m = call_entry::enter_at(table, service, dialogue);
+    let m = call_entry::enter_at(table, NO_SPACE, NO_SPACE, service, dialogue);
     let answer = m.answer;
     if answer != 0 {
         return call_entry::refused(answer);

@@ -1,4 +1,4 @@
--- HOW A RECEIVED MESSAGE ENDS: refused by 2, 3 or 4, or done. Assumes nothing.
+-- HOW A RECEIVED MESSAGE ENDS: refused by its prologue or by 4, or done. Assumes nothing.
 use mathlib.Core.Path.{_≡_, refl, sym, ap, _∙_}
 use mathlib.Core.List.{List}
 use Prim.Native.Nat.{ℕ, _≤_, _<_}
@@ -6,16 +6,18 @@ use native.Mathlib.Omega.{arith}
 use lib.ListN.{length}
 use Rattle.laws.specs.If.{lt, ge, eq, ne}
 use Rattle.paper.specs.declared.Message.{Message}
+use Rattle.paper.specs.Sizes.{longestMessage}
 use Rattle.paper.specs.Messages.{messageOf}
 use Rattle.paper.specs.Dialogues.{Place}
 use Rattle.paper.specs.Calls.{Table, Out, refuse, faultedAt, faulted, uniReceived, beginAt, beginReceived, continueReceived, endReceived, abortReceived, toDialogue, soundReceived, received, receivedIf, step}
 use Rattle.paper.specs.Calls.Call.{Receive}
 use Rattle.paper.specs.Layout.{view}
-use Rattle.paper.specs.Outcome.{Lent, outcome, spacesFor, standing}
-use Rattle.table_rules.specs.Checking.{tableAnswer, standing-check}
+use Rattle.paper.specs.Outcome.{Lent, outcome, spacesFor}
 use Rattle.demand_kept.specs.Leaves.{whether-eq, whether-b}
 use Rattle.call_entry.specs.declared.Reply.{Reply}
-use Rattle.call_entry.specs.Replies.{reply, Told, lent-same, by-standing, by-refusal, by-step}
+use Rattle.call_entry.specs.Replies.{reply, Told, lent-same}
+use Rattle.call_entry.specs.Prologue.{entryOf, Within}
+use Rattle.call_entry.specs.Ends.{has, call-refused, call-no, call-done}
 use Rattle.call_receive_parts.specs.declared.Received.{Received}
 use Rattle.call_receive_parts.specs.Receives.{Receives}
 
@@ -47,34 +49,28 @@ pub no-dialogue : (T : Table) (service : ℕ) (s : List ℕ) → received T serv
 unfolding Unnamed
 no-dialogue T service s = received-unnamed T service s (messageOf s)
 
-module _ (l : Lent) (s : ℕ) (m : List ℕ) (wide : 4096 ≤ length (l .rows)) (long : 272 ≤ length (l .space)) where
-  stands : tableAnswer (l .table) ≡ standing l (spacesFor (Receive s m))
-  stands = standing-check l (spacesFor (Receive s m)) wide long
+module _ (l : Lent) (s : ℕ) (m : List ℕ) where
+  pub receive-refused : (n : ℕ) → n ≡ entryOf (l .table) (has l) (spacesFor (Receive s m)) s → 0 < n → {r : Reply} → r ≡ reply n 0 0 0 → Told (outcome l (Receive s m)) r l
+  unfolding step
+  receive-refused n e h d = call-refused l (Receive s m) s (receivedIf (view (l .table)) s m) refl n e h d
 
-  pub no-table : (n : ℕ) → n ≡ tableAnswer (l .table) → 0 < n → {r : Reply} → r ≡ reply n 0 0 0 → Told (outcome l (Receive s m)) r l
-  no-table n e h d = by-standing l (Receive s m) n (e ∙ stands) h d
-
-  module _ (z : 0 ≡ tableAnswer (l .table)) where
-    pub no-service : 16 ≤ s → {r : Reply} → r ≡ reply 3 0 0 0 → Told (outcome l (Receive s m)) r l
-    unfolding step
-    no-service h d = by-refusal l (Receive s m) (z ∙ stands) (refuse 3 (view (l .table))) (sym (ge _ _ _ _ h refl)) (omega arith) d
-
-    pub no-octets : s < 16 → length m ≡ 0 → {r : Reply} → r ≡ reply 4 0 0 0 → Told (outcome l (Receive s m)) r l
+  module _ (w : Within (l .table) (has l) (spacesFor (Receive s m)) s) where
+    pub no-octets : length m ≡ 0 → {r : Reply} → r ≡ reply 4 0 0 0 → Told (outcome l (Receive s m)) r l
     unfolding step receivedIf
-    no-octets h e d = by-refusal l (Receive s m) (z ∙ stands) (refuse 4 (view (l .table))) (sym (lt _ _ _ _ h (eq _ _ _ _ e refl))) (omega arith) d
+    no-octets e d = call-no l (Receive s m) s (receivedIf (view (l .table)) s m) refl w 4 (refuse 4 (view (l .table))) (sym (eq _ _ _ _ e refl)) refl (omega arith) d
 
-    pub too-many : s < 16 → 512 < length m → {r : Reply} → r ≡ reply 4 0 0 0 → Told (outcome l (Receive s m)) r l
+    pub too-many : longestMessage < length m → {r : Reply} → r ≡ reply 4 0 0 0 → Told (outcome l (Receive s m)) r l
     unfolding step receivedIf
-    too-many h e d =
-        by-refusal l (Receive s m) (z ∙ stands) (refuse 4 (view (l .table))) (sym (lt _ _ _ _ h (ne _ _ _ _ (λ q. omega arith) (lt _ _ _ _ e refl)))) (omega arith) d
+    too-many e d =
+        call-no l (Receive s m) s (receivedIf (view (l .table)) s m) refl w 4 (refuse 4 (view (l .table))) (sym (ne _ _ _ _ (λ q. omega arith) (lt _ _ _ _ e refl))) refl (omega arith) d
 
-    pub is-done : s < 16 → 0 < length m → length m ≤ 512 → {q : Received} {t rows space : List ℕ}
+    pub is-done : 0 < length m → length m ≤ longestMessage → {q : Received} {t rows space : List ℕ}
         → Receives (received (view (l .table)) s m (messageOf m)) q t (l .rows) rows (l .space) space → {r : Reply} → r ≡ reply 0 (q .rows) (q .length) 0
         → Told (outcome l (Receive s m)) r (record { table = t; rows = rows; space = space })
     unfolding step receivedIf
-    is-done h some few {q} g d =
-        by-step l (Receive s m) (z ∙ stands) (received (view (l .table)) s m (messageOf m))
-        (sym (lt _ _ _ _ h (ne _ _ _ _ (λ e. omega arith) (ge _ _ _ _ few refl)))) (g .answer)
-        (d ∙ ap (λ (n : ℕ). reply 0 n (q .length) 0) (g .count) ∙ ap (λ (n : ℕ). reply 0 (length (received (view (l .table)) s m (messageOf m) .rows)) n 0) (g .long)
-        ∙ ap (reply 0 (length (received (view (l .table)) s m (messageOf m) .rows)) (length (received (view (l .table)) s m (messageOf m) .message))) (sym (no-dialogue (view (l .table)) s m)))
+    is-done some few {q} g d =
+        let o : Out = received (view (l .table)) s m (messageOf m) in
+        call-done l (Receive s m) s (receivedIf (view (l .table)) s m) refl w o (sym (ne _ _ _ _ (λ e. omega arith) (ge _ _ _ _ few refl))) (g .answer)
+        (d ∙ ap (λ (n : ℕ). reply 0 n (q .length) 0) (g .count) ∙ ap (λ (n : ℕ). reply 0 (length (o .rows)) n 0) (g .long)
+        ∙ ap (reply 0 (length (o .rows)) (length (o .message))) (sym (no-dialogue (view (l .table)) s m)))
         (lent-same _ _ (g .table) (g .holds) (g .writes))

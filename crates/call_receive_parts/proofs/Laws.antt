@@ -21,13 +21,12 @@ use Rattle.paper.specs.Writing.{tlv, causeAbortOctets}
 use Rattle.paper.specs.Kinds.{rowUni, rowBegin, rowContinue, rowEnd, rowUserAbort, rowAbort}
 use Rattle.paper.specs.Rows.{dialogueRow, rowOctets, rowsOctets, componentRows, allActed}
 use Rattle.paper.specs.Dialogues.{begun, freed, withControl, emptyControl, dialogueReceived}
-use Rattle.paper.specs.Calls.{Table, Out, refuse, shows, placeAt, withPlace, owns, octetsAt, destinationNumber, assigned, faultedAt, faulted, itemsOf, uniReceived, begunControl, beginAt, continuedControl, continueReceived, endReceived, abortReceived, lowestFree, mayBegin}
+use Rattle.paper.specs.Calls.{Table, Out, refuse, shows, placeAt, withPlace, owns, octetsAt, destinationNumber, assigned, faultedAt, faulted, itemsOf, uniReceived, begunControl, beginAt, continuedControl, continueReceived, endReceived, abortReceived, lowestFree}
 use Rattle.paper.specs.Layout.{encode, view}
 use Rattle.table_laws.specs.Fine.{FineControl}
 use Rattle.table_laws.specs.Slots.{flag-free}
 use Rattle.table_laws.specs.Ready.{Ready}
 use Rattle.table_laws.specs.Owners.{Owned, owned-is}
-use Rattle.table_laws.specs.Counts.{lowest-is-free}
 use Rattle.demand_kept.specs.Leaves.{whether-eq}
 use Rattle.demand_kept.specs.Acts.{AllReadable, Stays, all-acted-stays, components-readable}
 use Rattle.demand_kept.specs.StepKept.{begun-control-fine, continued-fine}
@@ -36,9 +35,7 @@ use Rattle.reading_components.specs.Bounds.{component-in}
 use Rattle.writing_octets.specs.Lengths.{element-length, length-small}
 use Rattle.call_receive_rows.specs.declared.Shown.{Shown}
 use Rattle.call_receive_rows.specs.Shows.{Shows}
-use Rattle.call_receive_parts.specs.declared.Counted.{Counted}
-use Rattle.call_receive_parts.specs.Receives.{Read, Standing, Counts, Rowed, Leaves, Receives}
-use Rattle.demand_kept.specs.Shared.{lowest-there}
+use Rattle.call_receive_parts.specs.Receives.{Read, Standing, Begins, Rowed, Leaves, Receives}
 
 -- ---- IDS
 pub octet-in : (s : List ℕ) (a n i : ℕ) → i < n → getD s (a + i) 0 ≡ getD (take n (drop a s)) i 0
@@ -280,7 +277,7 @@ module _ (s : List ℕ) (m : Message) (cause : ℕ) (given : List ℕ) (is : giv
         (record { answer = refl; table = u .table; count = refl; holds = u .holds; long = long; writes = holds })
 
 -- ---- A PLACE FOR A BEGIN
-pub lowest-standing : (t : List ℕ) (service : ℕ) (n : Counted) → Counts t service n → mayBegin (view t) service ≡ true → (p : ℕ) → p ≡ lowestFree (view t) → Standing 1 t p
-lowest-standing t service n w e p q =
-    let h : lowestFree (view t) < 128 = lowest-there (view t) (w .ready .fine) service (w .service) e in
-    subst (Standing 1 t) (sym q) (record { ready = w .ready; small = h; told = lowest-is-free (view t) (w .ready .fine) h })
+pub lowest-standing : (t : List ℕ) (service : ℕ) (may : Bool) → Begins t service may → may ≡ true → (p : ℕ) → p ≡ lowestFree (view t) → Standing 1 t p
+lowest-standing t service may w e p q =
+    let h = w .there (sym (w .is) ∙ e) in
+    subst (Standing 1 t) (sym q) (record { ready = w .ready; small = h .0; told = h .1 })

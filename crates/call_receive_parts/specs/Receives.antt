@@ -1,41 +1,40 @@
 -- What a received message needs, and what it leaves of the table, the rows and the message space. Assumes nothing.
 use mathlib.Core.Path.{_≡_, sym, ap, subst}
+use mathlib.Core.Bool.{Bool, true}
 use mathlib.Core.List.{List, []}
 use Prim.Native.Nat.{ℕ, _<_, _≤_}
 use lib.ListN.{length}
 use lib.Seq.{sets}
 use Rattle.paper.specs.declared.Message.{Message}
 use Rattle.paper.specs.declared.Control.{Control}
+use Rattle.paper.specs.Sizes.{placesInAll, services, longestMessage}
 use Rattle.paper.specs.Rows.{allActed, rowsOctets}
-use Rattle.paper.specs.Shares.{allUnused, free}
-use Rattle.paper.specs.Calls.{Out, placeAt, held, dialogues, itemsOf, shownRows}
+use Rattle.paper.specs.Calls.{Out, placeAt, mayBegin, lowestFree, itemsOf, shownRows}
 use Rattle.paper.specs.Layout.{flag, encode, view}
 use Rattle.table_laws.specs.Fine.{Octets}
 use Rattle.table_laws.specs.Ready.{Ready}
 use Rattle.reading_messages.specs.Bounds.{MessageIn}
 use Rattle.call_receive_rows.specs.declared.Shown.{Shown}
-use Rattle.call_receive_parts.specs.declared.Counted.{Counted}
 use Rattle.call_receive_parts.specs.declared.Received.{Received}
 
 -- a message of at most 512 octets, and what was read of it
 pub record Read (s : List ℕ) (m : Message) : Type 0 where
   pub octets : Octets s
-  pub few : length s ≤ 512
+  pub few : length s ≤ longestMessage
   pub lies : MessageIn (length s) m
 
 -- the table keeps the rules, and place p is used (bit 0) or free (1)
 pub record Standing (bit : ℕ) (t : List ℕ) (p : ℕ) : Type 0 where
   pub ready : Ready t
-  pub small : p < 128
+  pub small : p < placesInAll
   pub told : flag (placeAt (view t) p) ≡ bit
 
--- the numbers for the share decision are the table's
-pub record Counts (t : List ℕ) (k : ℕ) (n : Counted) : Type 0 where
+-- what the prologue told of a service: whether the share rule gives it a place (demand 3), and that the lowest free one is then there
+pub record Begins (t : List ℕ) (k : ℕ) (may : Bool) : Type 0 where
   pub ready : Ready t
-  pub service : k < 16
-  pub counted : n .count ≡ held (view t .places) k
-  pub kept : n .unused ≡ allUnused (dialogues (view t))
-  pub remain : n .free ≡ free (dialogues (view t))
+  pub service : k < services
+  pub is : may ≡ mayBegin (view t) k
+  pub there : mayBegin (view t) k ≡ true → (lowestFree (view t) < placesInAll) × (flag (placeAt (view t) (lowestFree (view t))) ≡ 1)
 
 -- the dialogue's row and the components', and the control record after them
 pub record Rowed (kind me room : ℕ) (c : Control) (s : List ℕ) (m : Message) (old : List ℕ) (r : Shown) (new : List ℕ) : Type 0 where

@@ -5,27 +5,39 @@ ghost use Prim.Native.Nat.{_+_, _*_, _<_, _≤_};
 ghost use lib.ListN.{length, getD, take, drop};
 ghost use Rattle.laws.specs.If.{ifEq};
 ghost use Rattle.laws.specs.Lists.{pad};
-ghost use Rattle.paper.specs.Sizes.{placeOf};
+ghost use Rattle.paper.specs.Sizes.{services, longestMessage, leastRows, leastSpace, placeOf};
 ghost use Rattle.paper.specs.Problems.{noProblem};
 ghost use Rattle.paper.specs.Messages.{messageOf, isSound, noRun};
 ghost use Rattle.paper.specs.Kinds.{rowUserAbort, rowAbort};
 ghost use Rattle.paper.specs.Rows.{dialogueRow};
 ghost use Rattle.paper.specs.Dialogues.{begun};
-ghost use Rattle.paper.specs.Calls.{Table, placeAt, octetsAt, numberAt, assigned, faultedAt, faulted, itemsOf, uniReceived, beginAt, mayBegin};
+ghost use Rattle.paper.specs.Calls.{Table, placeAt, octetsAt, numberAt, assigned, faultedAt, faulted, itemsOf, uniReceived, beginAt};
 ghost use Rattle.paper.specs.Calls.{beginReceived, continuedControl, continueReceived, endReceived, abortReceived, toDialogue, soundReceived, received};
 ghost use Rattle.paper.specs.Layout.{encode, view};
 ghost use Rattle.table_laws.specs.Ready.{Ready};
 ghost use Rattle.reading_messages.specs.Bounds.{RunIn};
 ghost use Rattle.call_receive_rows.specs.Shows.{Shows};
-ghost use Rattle.call_receive_parts.specs.Receives.{Read, Standing, Counts, Rowed, Leaves, Receives};
+ghost use Rattle.call_receive_parts.specs.Receives.{Read, Standing, Begins, Rowed, Leaves, Receives};
 use call_receive_rows::Shown;
 use paper::Control;
-use paper::GUARANTEES;
-use paper::LIMITS;
+use paper::DIALOGUE_ACTIVE;
+use paper::DIALOGUE_FREE;
+use paper::DIALOGUE_OPEN;
+use paper::DIALOGUE_RECEIVED;
+use paper::DIALOGUE_SENT;
+use paper::IS_DROPPED;
+use paper::IS_SOUND;
 use paper::Message;
-use paper::PLACES;
+use paper::NO_PROBLEM;
+use paper::ROW_ABORT;
+use paper::ROW_BEGIN;
+use paper::ROW_CONTINUE;
+use paper::ROW_END;
+use paper::ROW_UNI;
+use paper::ROW_USER_ABORT;
 use paper::Row;
 use paper::Run;
+use paper::TURNS;
 
 // How many rows, and how long the message is.
 pub struct Received {
@@ -33,30 +45,17 @@ pub struct Received {
     pub length: u32,
 }
 
-// What the decision on a place asks: the service's dialogues, all services' unused guarantees, the free places.
-pub struct Counted {
-    pub count: u32,
-    pub unused: u32,
-    pub free: u32,
-}
-
 const NONE: Run = Run {
     start: 0,
     length: 0,
 };
-
-fn number(x: u8) -> u32
-    ensures { λ r. ⌜ (r ≡ x) × (r < 256) ⌝ }
-{
-    x as u32
-}
 
 // ---- IDS
 // Four octets as a number, high first.
 fn four(a: u8, b: u8, c: u8, d: u8) -> u32
     ensures { λ r. ⌜ r ≡ a * 16777216 + b * 65536 + c * 256 + d ⌝ }
 {
-    (a as u32) * 16777216 + (b as u32) * 65536 + (c as u32) * 256 + (d as u32)
+    (a as u32) * TURNS + (b as u32) * 65536 + (c as u32) * 256 + (d as u32)
 }
 
 fn number_at(s: &[u8], a: usize) -> u32
@@ -102,8 +101,8 @@ fn assigned(t: &[u8], service: u32, s: &[u8], m: Message) -> bool
     }
     let me = number_at(s, d.start);
     if table_places::owner(t, service, me) {
-        let p = (me / 16777216) as usize;
-        if table_places::state_at(t, p) == 1 {
+        let p = (me / TURNS) as usize;
+        if table_places::state_at(t, p) == DIALOGUE_OPEN {
             return false;
         }
         return true;
@@ -114,12 +113,12 @@ fn assigned(t: &[u8], service: u32, s: &[u8], m: Message) -> bool
 // ---- FAULTS
 // "free an assigned destination's place, with a P-ABORT row"
 fn faulted_at(t: &mut [u8], dialogue: u32, cause: u8, rows: &mut [u8])
-    requires { ⌜ Standing 0 (now t) (placeOf dialogue) × (4096 ≤ length (now rows)) ⌝ }
+    requires { ⌜ Standing 0 (now t) (placeOf dialogue) × (leastRows ≤ length (now rows)) ⌝ }
     ensures { λ _. ⌜ Leaves (faultedAt (view (now (t .entry))) dialogue cause []) 1 (now (t .exit)) (now (rows .entry)) (now (rows .exit)) ⌝ }
 {
-    let p = (dialogue / 16777216) as usize;
-    let cause = number(cause);
-    let row = writing_rows::dialogue_row(6, dialogue, cause, NONE, 0);
+    let p = (dialogue / TURNS) as usize;
+    let cause = laws::number(cause);
+    let row = writing_rows::dialogue_row(ROW_ABORT, dialogue, cause, NONE, 0);
     writing_rows::write_row(rows, 0, row);
     table_places::free_at(t, p);
 }
@@ -134,7 +133,7 @@ fn faulted(
     rows: &mut [u8],
     space: &mut [u8],
 ) -> Received
-    requires { ⌜ Ready (now t) × Read (now s) m × (4096 ≤ length (now rows)) × (272 ≤ length (now space)) ⌝ }
+    requires { ⌜ Ready (now t) × Read (now s) m × (leastRows ≤ length (now rows)) × (leastSpace ≤ length (now space)) ⌝ }
     ensures { λ r. ⌜ Receives (faulted (view (now (t .entry))) service (now (s .entry)) m cause) r (now (t .exit)) (now (rows .entry)) (now (rows .exit)) (now (space .entry)) (now (space .exit)) ⌝ }
 {
     let id = m.origin;
@@ -169,7 +168,7 @@ fn components_shown(
     rows: &mut [u8],
     me: u32,
 ) -> Shown
-    requires { ⌜ Read (now s) m × (room ≤ 8) × (4096 ≤ length (now rows)) ⌝ }
+    requires { ⌜ Read (now s) m × (room ≤ 8) × (leastRows ≤ length (now rows)) ⌝ }
     ensures { λ r. ⌜ Shows me room control (now (rows .entry)) (itemsOf (now (s .entry)) m) r (now (rows .exit)) ⌝ }
 {
     if m.from == 0 {
@@ -191,14 +190,14 @@ fn shown(
     room: u8,
     rows: &mut [u8],
 ) -> Shown
-    requires { ⌜ Read (now s) m × (room ≤ 8) × (4096 ≤ length (now rows)) ⌝ }
+    requires { ⌜ Read (now s) m × (room ≤ 8) × (leastRows ≤ length (now rows)) ⌝ }
     ensures { λ r. ⌜ Rowed kind me room control (now (s .entry)) m (now (rows .entry)) r (now (rows .exit)) ⌝ }
 {
     let r = components_shown(s, m, control, room, rows, me);
     let after = r.control;
     let n = r.count;
     let portion = m.portion;
-    let row = writing_rows::dialogue_row(kind, me, 65535, portion, n as u32);
+    let row = writing_rows::dialogue_row(kind, me, NO_PROBLEM, portion, n as u32);
     writing_rows::write_row(rows, 0, row);
     Shown {
         control: after,
@@ -208,39 +207,34 @@ fn shown(
 
 // A Unidirectional has no dialogue: what its components act on is dropped.
 fn uni_received(s: &[u8], m: Message, rows: &mut [u8]) -> u32
-    requires { ⌜ Read (now s) m × (4096 ≤ length (now rows)) ⌝ }
+    requires { ⌜ Read (now s) m × (leastRows ≤ length (now rows)) ⌝ }
     ensures { λ r. ⌜ ((T : Table) → Leaves (uniReceived T (now (s .entry)) m) r (encode T) (now (rows .entry)) (now (rows .exit))) ⌝ }
 {
-    let c = table_places::begun(0, 0, 0, 0, [0; 4]);
-    let r = shown(s, m, 1, 0, c, 0, rows);
+    let c = table_places::begun(0, DIALOGUE_FREE, 0, 0, [0; 4]);
+    let r = shown(s, m, ROW_UNI, 0, c, 0, rows);
     r.count as u32
 }
 
 // "Begin opens in Received."
 fn begin_at(t: &mut [u8], service: u32, p: usize, s: &[u8], m: Message, rows: &mut [u8]) -> u32
-    requires { ⌜ Standing 1 (now t) p × (service < 16) × Read (now s) m × (4096 ≤ length (now rows)) × (0 < m .origin .length) ⌝ }
+    requires { ⌜ Standing 1 (now t) p × (service < services) × Read (now s) m × (leastRows ≤ length (now rows)) × (0 < m .origin .length) ⌝ }
     ensures { λ r. ⌜ Leaves (beginAt (view (now (t .entry))) service p (now (s .entry)) m) r (now (t .exit)) (now (rows .entry)) (now (rows .exit)) ⌝ }
 {
     let turn = table_places::turn_at(t, p);
     let me = table_places::id_at(t, p);
     let id = m.origin;
     let peer = peer_of(s, id);
-    let c = table_places::begun(turn, 3, service as u8, id.length as u8, peer);
-    let r = shown(s, m, 2, me, c, 8, rows);
+    let c = table_places::begun(
+        turn,
+        DIALOGUE_RECEIVED,
+        service as u8,
+        id.length as u8,
+        peer,
+    );
+    let r = shown(s, m, ROW_BEGIN, me, c, 8, rows);
     let control = r.control;
     table_places::begin_at(t, p, control);
     r.count as u32
-}
-
-// Whether the service is given a place (demand 3).
-fn may_begin(t: &[u8], service: u32, n: Counted) -> bool
-    requires { ⌜ Counts (now t) service n ⌝ }
-    ensures { λ r. ⌜ r ≡ mayBegin (view (now (t .entry))) service ⌝ }
-{
-    let k = service as usize;
-    let share = table_shares::share_at(&t[GUARANTEES..LIMITS], &t[LIMITS..PLACES], k);
-    let guarantee = share.guarantee;
-    return table_shares::gives_place(n.count, guarantee, share.limit, n.unused, n.free);
 }
 
 // "Begin without a place, 4"
@@ -249,14 +243,14 @@ fn begin_received(
     service: u32,
     s: &[u8],
     m: Message,
-    n: Counted,
+    may: bool,
     rows: &mut [u8],
     space: &mut [u8],
 ) -> Received
-    requires { ⌜ Counts (now t) service n × Read (now s) m × (4096 ≤ length (now rows)) × (272 ≤ length (now space)) × (0 < m .origin .length) ⌝ }
+    requires { ⌜ Begins (now t) service may × Read (now s) m × (leastRows ≤ length (now rows)) × (leastSpace ≤ length (now space)) × (0 < m .origin .length) ⌝ }
     ensures { λ r. ⌜ Receives (beginReceived (view (now (t .entry))) service (now (s .entry)) m) r (now (t .exit)) (now (rows .entry)) (now (rows .exit)) (now (space .entry)) (now (space .exit)) ⌝ }
 {
-    if may_begin(t, service, n) {
+    if may {
         let p = table_places::lowest_place(t);
         let k = begin_at(t, service, p, s, m, rows);
         return Received { rows: k, length: 0 };
@@ -269,26 +263,26 @@ fn continued(c: Control, s: &[u8], m: Message) -> Control
     requires { ⌜ Read (now s) m ⌝ }
     ensures { λ r. ⌜ r ≡ continuedControl c (now (s .entry)) m ⌝ }
 {
-    if c.state != 2 {
+    if c.state != DIALOGUE_SENT {
         return c;
     }
     let id = m.origin;
     let peer = peer_of(s, id);
     let mut d = c;
-    d.state = 4;
+    d.state = DIALOGUE_ACTIVE;
     d.peerlen = id.length as u8;
     d.peer = peer;
     return d;
 }
 
 fn continue_received(t: &mut [u8], me: u32, s: &[u8], m: Message, rows: &mut [u8]) -> u32
-    requires { ⌜ Standing 0 (now t) (placeOf me) × Read (now s) m × (4096 ≤ length (now rows)) × (0 < m .origin .length) ⌝ }
+    requires { ⌜ Standing 0 (now t) (placeOf me) × Read (now s) m × (leastRows ≤ length (now rows)) × (0 < m .origin .length) ⌝ }
     ensures { λ r. ⌜ Leaves (continueReceived (view (now (t .entry))) me (now (s .entry)) m (placeAt (view (now (t .entry))) (placeOf me))) r (now (t .exit)) (now (rows .entry)) (now (rows .exit)) ⌝ }
 {
-    let p = (me / 16777216) as usize;
+    let p = (me / TURNS) as usize;
     let c = table_places::load(t, p);
     let d = continued(c, s, m);
-    let r = shown(s, m, 3, me, d, 8, rows);
+    let r = shown(s, m, ROW_CONTINUE, me, d, 8, rows);
     let control = r.control;
     table_places::store_control(t, p, control);
     r.count as u32
@@ -296,12 +290,12 @@ fn continue_received(t: &mut [u8], me: u32, s: &[u8], m: Message, rows: &mut [u8
 
 // "End shows its components, then frees"
 fn end_received(t: &mut [u8], me: u32, s: &[u8], m: Message, rows: &mut [u8]) -> u32
-    requires { ⌜ Standing 0 (now t) (placeOf me) × Read (now s) m × (4096 ≤ length (now rows)) ⌝ }
+    requires { ⌜ Standing 0 (now t) (placeOf me) × Read (now s) m × (leastRows ≤ length (now rows)) ⌝ }
     ensures { λ r. ⌜ Leaves (endReceived (view (now (t .entry))) me (now (s .entry)) m (placeAt (view (now (t .entry))) (placeOf me))) r (now (t .exit)) (now (rows .entry)) (now (rows .exit)) ⌝ }
 {
-    let p = (me / 16777216) as usize;
+    let p = (me / TURNS) as usize;
     let c = table_places::load(t, p);
-    let r = shown(s, m, 4, me, c, 0, rows);
+    let r = shown(s, m, ROW_END, me, c, 0, rows);
     table_places::free_at(t, p);
     r.count as u32
 }
@@ -311,18 +305,18 @@ fn abort_row(me: u32, m: Message, n: usize) -> Row
     requires { ⌜ (n < 65536) × RunIn n (m .portion) ⌝ }
     ensures { λ r. ⌜ r ≡ ifEq (m .cause) noProblem (dialogueRow rowUserAbort me noProblem (m .portion) 0) (dialogueRow rowAbort me (m .cause) noRun 0) ⌝ }
 {
-    if m.cause == 65535 {
+    if m.cause == NO_PROBLEM {
         let portion = m.portion;
-        return writing_rows::dialogue_row(5, me, 65535, portion, 0);
+        return writing_rows::dialogue_row(ROW_USER_ABORT, me, NO_PROBLEM, portion, 0);
     }
-    return writing_rows::dialogue_row(6, me, m.cause, NONE, 0);
+    return writing_rows::dialogue_row(ROW_ABORT, me, m.cause, NONE, 0);
 }
 
 fn abort_received(t: &mut [u8], me: u32, s: &[u8], m: Message, rows: &mut [u8]) -> u32
-    requires { ⌜ Standing 0 (now t) (placeOf me) × Read (now s) m × (4096 ≤ length (now rows)) ⌝ }
+    requires { ⌜ Standing 0 (now t) (placeOf me) × Read (now s) m × (leastRows ≤ length (now rows)) ⌝ }
     ensures { λ r. ⌜ Leaves (abortReceived (view (now (t .entry))) me m (placeAt (view (now (t .entry))) (placeOf me))) r (now (t .exit)) (now (rows .entry)) (now (rows .exit)) ⌝ }
 {
-    let p = (me / 16777216) as usize;
+    let p = (me / TURNS) as usize;
     let row = abort_row(me, m, s.len());
     writing_rows::write_row(rows, 0, row);
     table_places::free_at(t, p);
@@ -339,11 +333,11 @@ fn to_dialogue(
     rows: &mut [u8],
     space: &mut [u8],
 ) -> Received
-    requires { ⌜ Standing 0 (now t) (placeOf me) × Read (now s) m × (4096 ≤ length (now rows)) × (272 ≤ length (now space)) × (m .fault ≡ isSound) ⌝ }
+    requires { ⌜ Standing 0 (now t) (placeOf me) × Read (now s) m × (leastRows ≤ length (now rows)) × (leastSpace ≤ length (now space)) × (m .fault ≡ isSound) ⌝ }
     ensures { λ r. ⌜ Receives (toDialogue (view (now (t .entry))) service me (now (s .entry)) m (placeAt (view (now (t .entry))) (placeOf me))) r (now (t .exit)) (now (rows .entry)) (now (rows .exit)) (now (space .entry)) (now (space .exit)) ⌝ }
 {
-    let p = (me / 16777216) as usize;
-    if table_places::state_at(t, p) == 3 {
+    let p = (me / TURNS) as usize;
+    if table_places::state_at(t, p) == DIALOGUE_RECEIVED {
         if m.tag == 0x65 {
             return faulted(t, service, s, m, 3, rows, space);
         }
@@ -367,11 +361,11 @@ fn sound_received(
     service: u32,
     s: &[u8],
     m: Message,
-    n: Counted,
+    may: bool,
     rows: &mut [u8],
     space: &mut [u8],
 ) -> Received
-    requires { ⌜ Counts (now t) service n × Read (now s) m × (4096 ≤ length (now rows)) × (272 ≤ length (now space)) × (m .fault ≡ isSound) ⌝ }
+    requires { ⌜ Begins (now t) service may × Read (now s) m × (leastRows ≤ length (now rows)) × (leastSpace ≤ length (now space)) × (m .fault ≡ isSound) ⌝ }
     ensures { λ r. ⌜ Receives (soundReceived (view (now (t .entry))) service (now (s .entry)) m) r (now (t .exit)) (now (rows .entry)) (now (rows .exit)) (now (space .entry)) (now (space .exit)) ⌝ }
 {
     if m.tag == 0x61 {
@@ -379,7 +373,7 @@ fn sound_received(
         return Received { rows: k, length: 0 };
     }
     if m.tag == 0x62 {
-        return begin_received(t, service, s, m, n, rows, space);
+        return begin_received(t, service, s, m, may, rows, space);
     }
     if assigned(t, service, s, m) {
         let d = m.destination;
@@ -394,19 +388,19 @@ pub fn receive(
     t: &mut [u8],
     service: u32,
     s: &[u8],
-    n: Counted,
+    may: bool,
     rows: &mut [u8],
     space: &mut [u8],
 ) -> Received
-    requires { ⌜ Counts (now t) service n × (0 < length (now s)) × (length (now s) ≤ 512) × (4096 ≤ length (now rows)) × (272 ≤ length (now space)) ⌝ }
+    requires { ⌜ Begins (now t) service may × (0 < length (now s)) × (length (now s) ≤ longestMessage) × (leastRows ≤ length (now rows)) × (leastSpace ≤ length (now space)) ⌝ }
     ensures { λ r. ⌜ Receives (received (view (now (t .entry))) service (now (s .entry)) (messageOf (now (s .entry)))) r (now (t .exit)) (now (rows .entry)) (now (rows .exit)) (now (space .entry)) (now (space .exit)) ⌝ }
 {
     let m = reading_messages::message_of(s);
-    if m.fault == 254 {
+    if m.fault == IS_DROPPED {
         return Received { rows: 0, length: 0 };
     }
-    if m.fault == 255 {
-        return sound_received(t, service, s, m, n, rows, space);
+    if m.fault == IS_SOUND {
+        return sound_received(t, service, s, m, may, rows, space);
     }
     return faulted(t, service, s, m, m.fault, rows, space);
 }

@@ -1,20 +1,52 @@
 -- An invocation that goes to Idle, as a timer or a cancel asks (01, "Invocation states"). Assumes nothing.
 use mathlib.Core.Path.{_≡_, refl, sym, ap, subst, _∙_}
 use mathlib.Core.List.{List, [], _∷_}
-use Prim.Native.Nat.{ℕ}
+use Prim.Native.Nat.{ℕ, _<_}
 use native.Mathlib.Omega.{arith}
 use lib.ListN.{getD}
 use Rattle.laws.specs.If.{eq, ne}
 use Rattle.paper.specs.declared.Invocation.{Invocation}
 use Rattle.paper.specs.declared.Control.{Control}
-use Rattle.paper.specs.Invocations.{noInvocation, slotOf, invocationOf, stateOf, toIdle}
+use Rattle.paper.specs.Invocations.{sent, wait, noInvocation, slotOf, invocationOf, stateOf, toIdle}
 use Rattle.paper.specs.Rows.{cancelRow}
-use Rattle.paper.specs.Dialogues.{Place, withControl, needs, timeoutRows}
+use Rattle.paper.specs.Dialogues.{Place, Request, withControl, needs, refusal, does, done, timeoutRows}
+use Rattle.paper.specs.Dialogues.Request.{Cancel, RejectTimeout}
+use Rattle.paper.specs.Outcome.{noSpace, spacesOf}
+use Rattle.call_release.specs.declared.Idler.{Idler}
+use Rattle.call_release.specs.declared.Idler.the-variants.{User, RejectTimer}
 use Rattle.paper.specs.Calls.{placeAt, withPlace}
 use Rattle.paper.specs.Layout.{encode, view}
 use Rattle.table_laws.specs.Keeps.{to-idle-fine}
 use Rattle.table_places.specs.Storing.{Storing}
 use Rattle.call_entry.specs.Prologue.{Used, used-storing}
+
+-- the requests that do nothing else, and the state that each needs
+abbrev pub fromState : Idler → ℕ
+fromState User = sent
+fromState RejectTimer = wait
+
+pub from-positive : (by : Idler) {n : ℕ} → n ≡ fromState by → 0 < n
+from-positive User e = omega (arith, e)
+from-positive RejectTimer e = omega (arith, e)
+
+abbrev pub idling : Idler → ℕ → Request
+idling User id = Cancel id
+idling RejectTimer id = RejectTimeout id
+
+module _ (id : ℕ) where
+  pub idling-spaces : (by : Idler) → noSpace ≡ spacesOf (idling by id)
+  idling-spaces User = refl
+  idling-spaces RejectTimer = refl
+
+  pub idling-refusal : (by : Idler) (x : Place) → needs x id (fromState by) ≡ refusal x (idling by id)
+  unfolding refusal
+  idling-refusal User x = refl
+  idling-refusal RejectTimer x = refl
+
+  pub idling-does : (by : Idler) (me : ℕ) (x : Place) → does me x (idling by id) ≡ done (withControl x (toIdle (x .control) id)) [] []
+  unfolding does
+  idling-does User me x = refl
+  idling-does RejectTimer me x = refl
 
 -- 0, or 9 and nothing changed
 pub record Idled (t : List ℕ) (p id state r : ℕ) (u : List ℕ) : Type 0 where

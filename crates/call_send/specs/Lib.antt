@@ -1,2 +1,2 @@
-pub mod Starts
+pub mod Sendings
 pub mod Messages

@@ -1,51 +1,62 @@
 // The requests that send a message (01, "Dialogue states"): each refused by its number, or the message written and the table changed.
-use call_entry::Met;
+use call_entry::MESSAGE_SPACE;
 use call_entry::Reply;
+use call_entry::Spaces;
 use paper::AARE;
 use paper::AARQ;
 use paper::AUDT;
 use paper::Control;
-use paper::LEAST_SPACE;
+use paper::DIALOGUE_ACTIVE;
+use paper::DIALOGUE_OPEN;
+use paper::DIALOGUE_RECEIVED;
+use paper::DIALOGUE_SENT;
 ghost use mathlib.Core.Path.{_≡_};
 ghost use mathlib.Core.List.{[]};
 ghost use Prim.Native.Nat.{_+_, _<_, _≤_};
 ghost use lib.ListN.{length};
 ghost use Rattle.laws.specs.Runs.{Wrote};
-ghost use Rattle.paper.specs.Sizes.{idOctets};
-ghost use Rattle.paper.specs.Writing.{beginOctets, continueOctets, endOctets, uniOctets};
+ghost use Rattle.paper.specs.Sizes.{placesInAll, mostWaiting, leastSpace};
 ghost use Rattle.paper.specs.Portions.{portionBy};
-ghost use Rattle.paper.specs.Dialogues.{peerOf, first, portionRefusal, sentComponents, abortPortion};
-ghost use Rattle.paper.specs.Dialogues.Request.{Begin, Continue, End, Unidirectional, Abort};
-ghost use Rattle.paper.specs.Calls.{placeAt};
+ghost use Rattle.paper.specs.Dialogues.{first, portionRefusal, sentComponents, abortPortion};
+ghost use Rattle.paper.specs.Dialogues.Request.{Abort};
+ghost use Rattle.paper.specs.Calls.{placeAt, withPlace};
 ghost use Rattle.paper.specs.Calls.Call.{OnDialogue};
-ghost use Rattle.paper.specs.Layout.{view};
+ghost use Rattle.paper.specs.Layout.{encode, view};
 ghost use Rattle.paper.specs.Outcome.{Gives, outcome};
 ghost use Rattle.table_laws.specs.Fine.{FineControl};
 ghost use Rattle.table_laws.specs.Ready.{Ready};
+ghost use Rattle.writing_octets.specs.Heads.{frontHead};
 ghost use Rattle.writing_octets.specs.Lengths.{Room};
 ghost use Rattle.writing_portions.specs.Forms.{formFor};
 ghost use Rattle.call_send_parts.specs.Sent.{Holds};
-ghost use Rattle.call_send.specs.Starts.{Starts, openRefusal, peerRefusal, abortBy};
+ghost use Rattle.call_send.specs.Sendings.{openRefusal, peerRefusal, abortBy, portionKind, stateRefusal, tagFor, idsFor, messageFor, placeAfter, sending};
 ghost use Rattle.call_send.specs.Messages.{Follows, rest, restSize};
 
-// The prologue of a call that takes a message space of n octets: 1 where it is too short, else that of every call on a dialogue.
-fn start(t: &[u8], n: usize, service: u32, dialogue: u32) -> Met
-    ensures { λ r. ⌜ Starts (now (t .entry)) n service dialogue (r .answer) (r .place) ⌝ }
+// The four messages that carry components.
+pub enum Sending {
+    ABegin,
+    AContinue,
+    AnEnd,
+    AUnidirectional,
+}
+
+// 02 a: the dialogue portion of each.
+fn portion_kind(k: Sending) -> u8
+    ensures { λ r. ⌜ r ≡ portionKind k ⌝ }
 {
-    if n < LEAST_SPACE {
-        return Met {
-            answer: 1,
-            place: 0,
-        };
+    match k {
+        Sending::ABegin => AARQ,
+        Sending::AContinue => AARE,
+        Sending::AnEnd => AARE,
+        Sending::AUnidirectional => AUDT,
     }
-    return call_entry::enter_at(t, service, dialogue);
 }
 
 // "Begin (to Sent) and Unidirectional (frees) need Open."
 fn open_refusal(state: u8) -> u32
     ensures { λ r. ⌜ r ≡ openRefusal state ⌝ }
 {
-    if state == 1 {
+    if state == DIALOGUE_OPEN {
         return 0;
     }
     return 6;
@@ -55,13 +66,26 @@ fn open_refusal(state: u8) -> u32
 fn peer_refusal(state: u8) -> u32
     ensures { λ r. ⌜ r ≡ peerRefusal state ⌝ }
 {
-    if state == 3 {
+    if state == DIALOGUE_RECEIVED {
         return 0;
     }
-    if state == 4 {
+    if state == DIALOGUE_ACTIVE {
         return 0;
     }
     return 6;
+}
+
+// Unidirectional is refused too with no component or with one not of class 4.
+fn state_refusal(t: &[u8], p: usize, c: Control, k: Sending) -> u32
+    requires { ⌜ Holds (now t) p c ⌝ }
+    ensures { λ r. ⌜ r ≡ stateRefusal k (placeAt (view (now (t .entry))) p) ⌝ }
+{
+    match k {
+        Sending::ABegin => open_refusal(c.state),
+        Sending::AContinue => peer_refusal(c.state),
+        Sending::AnEnd => peer_refusal(c.state),
+        Sending::AUnidirectional => call_send_parts::uni_refusal(t, p, c),
+    }
 }
 
 // The state's refusal, else that of the name and user information given with a sending (02 a).
@@ -74,7 +98,7 @@ fn refusal_with(
     name: &[u8],
     information: &[u8],
 ) -> u32
-    requires { ⌜ Ready (now t) × (p < 128) × (state ≡ placeAt (view (now t)) p .control .state) × (kind ≡ 4 → ⊥) ⌝ }
+    requires { ⌜ Ready (now t) × (p < placesInAll) × (state ≡ placeAt (view (now t)) p .control .state) × (kind ≡ 4 → ⊥) ⌝ }
     ensures { λ r. ⌜ r ≡ first early (portionRefusal (placeAt (view (now (t .entry))) p) (formFor kind) (now (name .entry)) (now (information .entry))) ⌝ }
 {
     if early != 0 {
@@ -106,7 +130,7 @@ fn what_follows(t: &[u8], p: usize, c: Control, kind: u8, name: &[u8], informati
 
 // The octets after the IDs, the 6C's head counted.
 fn rest_size(f: Follow) -> usize
-    requires { ⌜ f .portion + f .length ≤ 240 ⌝ }
+    requires { ⌜ f .portion + f .length ≤ mostWaiting ⌝ }
     ensures { λ r. ⌜ r ≡ restSize (f .portion) (f .length) ⌝ }
 {
     let n = f.length;
@@ -123,7 +147,7 @@ fn write_given(
     information: &[u8],
     q: usize,
 ) -> usize
-    requires { ⌜ (length (now name) ≤ 240) × (length (now information) ≤ 240) × (q ≡ length (portionBy (formFor kind) (now name) (now information))) × Room (now out) at q ⌝ }
+    requires { ⌜ (length (now name) ≤ mostWaiting) × (length (now information) ≤ mostWaiting) × (q ≡ length (portionBy (formFor kind) (now name) (now information))) × Room (now out) at q ⌝ }
     ensures { λ r. ⌜ Wrote (now (out .entry)) at (portionBy (formFor kind) (now (name .entry)) (now (information .entry))) r (now (out .exit)) ⌝ }
 {
     if q == 0 {
@@ -153,207 +177,94 @@ fn write_rest(
     return call_send_parts::write_sent(out, b, t, p, c, f.fits);
 }
 
-// A Begin, with an AARQ.
-fn write_begin(
-    out: &mut [u8],
-    t: &[u8],
-    p: usize,
-    c: Control,
-    dialogue: u32,
-    name: &[u8],
-    information: &[u8],
-    f: Follow,
-) -> usize
-    requires { ⌜ Holds (now t) p c × Follows (placeAt (view (now t)) p) 2 (now name) (now information) (f .portion) (f .fits) (f .length) × (272 ≤ length (now out)) ⌝ }
-    ensures is { λ r. ⌜ Wrote (now (out .entry)) 0 (beginOctets (idOctets dialogue) (portionBy (formFor 2) (now (name .entry)) (now (information .entry))) (sentComponents (placeAt (view (now (t .entry))) p) (f .fits))) r (now (out .exit)) ⌝ }
-    ensures within { λ r. ⌜ r ≤ 272 ⌝ }
+// A message up to its IDs, where m octets follow them.
+fn write_front(out: &mut [u8], k: Sending, dialogue: u32, c: Control, m: usize) -> usize
+    requires { ⌜ FineControl c × (m ≤ 244) × (leastSpace ≤ length (now out)) ⌝ }
+    ensures { λ r. ⌜ Wrote (now (out .entry)) 0 (frontHead (tagFor k) (idsFor k dialogue c) m) r (now (out .exit)) ⌝ }
 {
-    let m = rest_size(f);
-    let a = writing_messages::begin_front(out, 0, dialogue, m);
-    return write_rest(out, a, t, p, c, AARQ, name, information, f);
-}
-
-// A Continue, with an AARE.
-fn write_continue(
-    out: &mut [u8],
-    t: &[u8],
-    p: usize,
-    c: Control,
-    dialogue: u32,
-    name: &[u8],
-    information: &[u8],
-    f: Follow,
-) -> usize
-    requires { ⌜ Holds (now t) p c × Follows (placeAt (view (now t)) p) 3 (now name) (now information) (f .portion) (f .fits) (f .length) × (272 ≤ length (now out)) ⌝ }
-    ensures is { λ r. ⌜ Wrote (now (out .entry)) 0 (continueOctets (idOctets dialogue) (peerOf (placeAt (view (now (t .entry))) p .control)) (portionBy (formFor 3) (now (name .entry)) (now (information .entry))) (sentComponents (placeAt (view (now (t .entry))) p) (f .fits))) r (now (out .exit)) ⌝ }
-    ensures within { λ r. ⌜ r ≤ 272 ⌝ }
-{
-    let m = rest_size(f);
     let peer = c.peer;
-    let a = writing_messages::continue_front(out, 0, dialogue, peer, c.peerlen as usize, m);
-    return write_rest(out, a, t, p, c, AARE, name, information, f);
+    let n = c.peerlen as usize;
+    match k {
+        Sending::ABegin => writing_messages::begin_front(out, 0, dialogue, m),
+        Sending::AContinue => writing_messages::continue_front(out, 0, dialogue, peer, n, m),
+        Sending::AnEnd => writing_messages::end_front(out, 0, peer, n, m),
+        Sending::AUnidirectional => writing_messages::uni_front(out, 0, m),
+    }
 }
 
-// An End, with an AARE.
-fn write_end(
+fn write_message(
     out: &mut [u8],
     t: &[u8],
     p: usize,
     c: Control,
+    k: Sending,
+    kind: u8,
+    dialogue: u32,
     name: &[u8],
     information: &[u8],
     f: Follow,
 ) -> usize
-    requires { ⌜ Holds (now t) p c × Follows (placeAt (view (now t)) p) 3 (now name) (now information) (f .portion) (f .fits) (f .length) × (272 ≤ length (now out)) ⌝ }
-    ensures is { λ r. ⌜ Wrote (now (out .entry)) 0 (endOctets (peerOf (placeAt (view (now (t .entry))) p .control)) (portionBy (formFor 3) (now (name .entry)) (now (information .entry))) (sentComponents (placeAt (view (now (t .entry))) p) (f .fits))) r (now (out .exit)) ⌝ }
-    ensures within { λ r. ⌜ r ≤ 272 ⌝ }
+    requires { ⌜ Holds (now t) p c × Follows (placeAt (view (now t)) p) kind (now name) (now information) (f .portion) (f .fits) (f .length) × (leastSpace ≤ length (now out)) ⌝ }
+    ensures is { λ r. ⌜ Wrote (now (out .entry)) 0 (messageFor k dialogue (placeAt (view (now (t .entry))) p) (portionBy (formFor kind) (now (name .entry)) (now (information .entry))) (f .fits)) r (now (out .exit)) ⌝ }
+    ensures within { λ r. ⌜ r ≤ leastSpace ⌝ }
 {
     let m = rest_size(f);
-    let peer = c.peer;
-    let a = writing_messages::end_front(out, 0, peer, c.peerlen as usize, m);
-    return write_rest(out, a, t, p, c, AARE, name, information, f);
+    let a = write_front(out, k, dialogue, c, m);
+    return write_rest(out, a, t, p, c, kind, name, information, f);
 }
 
-// A Unidirectional, with an AUDT.
-fn write_uni(
-    out: &mut [u8],
-    t: &[u8],
-    p: usize,
-    c: Control,
-    name: &[u8],
-    information: &[u8],
-    f: Follow,
-) -> usize
-    requires { ⌜ Holds (now t) p c × Follows (placeAt (view (now t)) p) 5 (now name) (now information) (f .portion) (f .fits) (f .length) × (272 ≤ length (now out)) ⌝ }
-    ensures is { λ r. ⌜ Wrote (now (out .entry)) 0 (uniOctets (portionBy (formFor 5) (now (name .entry)) (now (information .entry))) (sentComponents (placeAt (view (now (t .entry))) p) (f .fits))) r (now (out .exit)) ⌝ }
-    ensures within { λ r. ⌜ r ≤ 272 ⌝ }
+// "Begin (to Sent) ..; Continue (to Active) and basic end (frees)"; "Unidirectional (frees)"; "An end drops what it didn't send."
+fn leave(t: &mut [u8], p: usize, c: Control, k: Sending, fits: bool)
+    requires { ⌜ Holds (now t) p c × (0 ≡ stateRefusal k (placeAt (view (now t)) p)) ⌝ }
+    ensures { λ _. ⌜ now (t .exit) ≡ encode (withPlace (view (now (t .entry))) p (placeAfter k (placeAt (view (now (t .entry))) p) fits)) ⌝ }
 {
-    let m = rest_size(f);
-    let a = writing_messages::uni_front(out, 0, m);
-    return write_rest(out, a, t, p, c, AUDT, name, information, f);
+    match k {
+        Sending::ABegin => call_send_parts::leave_at(t, p, c, DIALOGUE_SENT, fits),
+        Sending::AContinue => call_send_parts::leave_at(t, p, c, DIALOGUE_ACTIVE, fits),
+        Sending::AnEnd => table_places::free_at(t, p),
+        Sending::AUnidirectional => table_places::free_at(t, p),
+    }
 }
 
-// "Begin (to Sent) .. need Open."
-pub fn send_begin(
+pub fn send(
     table: &mut [u8],
     service: u32,
     dialogue: u32,
+    k: Sending,
     name: &[u8],
     information: &[u8],
     space: &mut [u8],
 ) -> Reply
-    ensures { λ r. ⌜ Gives (outcome (record { table = now (table .entry); rows = []; space = now (space .entry) }) (OnDialogue service dialogue (Begin (now (name .entry)) (now (information .entry))))) (r .answer) (r .rows) (r .length) (r .dialogue) (record { table = now (table .exit); rows = []; space = now (space .exit) }) ⌝ }
+    ensures { λ r. ⌜ Gives (outcome (record { table = now (table .entry); rows = []; space = now (space .entry) }) (OnDialogue service dialogue (sending k (now (name .entry)) (now (information .entry))))) (r .answer) (r .rows) (r .length) (r .dialogue) (record { table = now (table .exit); rows = []; space = now (space .exit) }) ⌝ }
 {
-    let m = start(table, space.len(), service, dialogue);
+    let lent = Spaces {
+        rows: 0,
+        space: space.len(),
+    };
+    let m = call_entry::enter_at(table, lent, MESSAGE_SPACE, service, dialogue);
     let answer = m.answer;
     if answer != 0 {
         return call_entry::refused(answer);
     }
     let p = m.place;
     let c = table_places::load(table, p);
-    let early = open_refusal(c.state);
-    let refusal = refusal_with(table, p, c.state, early, AARQ, name, information);
+    let kind = portion_kind(k);
+    let early = state_refusal(table, p, c, k);
+    let refusal = refusal_with(table, p, c.state, early, kind, name, information);
     if refusal != 0 {
         return call_entry::refused(refusal);
     }
-    let f = what_follows(table, p, c, AARQ, name, information);
-    let e = write_begin(space, table, p, c, dialogue, name, information, f);
-    call_send_parts::leave_at(table, p, c, 2, f.fits);
-    return call_entry::done(0, e as u32);
-}
-
-// "Continue (to Active) .. need Received or Active."
-pub fn send_continue(
-    table: &mut [u8],
-    service: u32,
-    dialogue: u32,
-    name: &[u8],
-    information: &[u8],
-    space: &mut [u8],
-) -> Reply
-    ensures { λ r. ⌜ Gives (outcome (record { table = now (table .entry); rows = []; space = now (space .entry) }) (OnDialogue service dialogue (Continue (now (name .entry)) (now (information .entry))))) (r .answer) (r .rows) (r .length) (r .dialogue) (record { table = now (table .exit); rows = []; space = now (space .exit) }) ⌝ }
-{
-    let m = start(table, space.len(), service, dialogue);
-    let answer = m.answer;
-    if answer != 0 {
-        return call_entry::refused(answer);
-    }
-    let p = m.place;
-    let c = table_places::load(table, p);
-    let early = peer_refusal(c.state);
-    let refusal = refusal_with(table, p, c.state, early, AARE, name, information);
-    if refusal != 0 {
-        return call_entry::refused(refusal);
-    }
-    let f = what_follows(table, p, c, AARE, name, information);
-    let e = write_continue(space, table, p, c, dialogue, name, information, f);
-    call_send_parts::leave_at(table, p, c, 4, f.fits);
-    return call_entry::done(0, e as u32);
-}
-
-// "basic end (frees) need Received or Active"; "An end drops what it didn't send."
-pub fn send_end(
-    table: &mut [u8],
-    service: u32,
-    dialogue: u32,
-    name: &[u8],
-    information: &[u8],
-    space: &mut [u8],
-) -> Reply
-    ensures { λ r. ⌜ Gives (outcome (record { table = now (table .entry); rows = []; space = now (space .entry) }) (OnDialogue service dialogue (End (now (name .entry)) (now (information .entry))))) (r .answer) (r .rows) (r .length) (r .dialogue) (record { table = now (table .exit); rows = []; space = now (space .exit) }) ⌝ }
-{
-    let m = start(table, space.len(), service, dialogue);
-    let answer = m.answer;
-    if answer != 0 {
-        return call_entry::refused(answer);
-    }
-    let p = m.place;
-    let c = table_places::load(table, p);
-    let early = peer_refusal(c.state);
-    let refusal = refusal_with(table, p, c.state, early, AARE, name, information);
-    if refusal != 0 {
-        return call_entry::refused(refusal);
-    }
-    let f = what_follows(table, p, c, AARE, name, information);
-    let e = write_end(space, table, p, c, name, information, f);
-    table_places::free_at(table, p);
-    return call_entry::done(0, e as u32);
-}
-
-// "Unidirectional (frees) need Open": refused too with no component or with one not of class 4.
-pub fn send_unidirectional(
-    table: &mut [u8],
-    service: u32,
-    dialogue: u32,
-    name: &[u8],
-    information: &[u8],
-    space: &mut [u8],
-) -> Reply
-    ensures { λ r. ⌜ Gives (outcome (record { table = now (table .entry); rows = []; space = now (space .entry) }) (OnDialogue service dialogue (Unidirectional (now (name .entry)) (now (information .entry))))) (r .answer) (r .rows) (r .length) (r .dialogue) (record { table = now (table .exit); rows = []; space = now (space .exit) }) ⌝ }
-{
-    let m = start(table, space.len(), service, dialogue);
-    let answer = m.answer;
-    if answer != 0 {
-        return call_entry::refused(answer);
-    }
-    let p = m.place;
-    let c = table_places::load(table, p);
-    let early = call_send_parts::uni_refusal(table, p, c);
-    let refusal = refusal_with(table, p, c.state, early, AUDT, name, information);
-    if refusal != 0 {
-        return call_entry::refused(refusal);
-    }
-    let f = what_follows(table, p, c, AUDT, name, information);
-    let e = write_uni(space, table, p, c, name, information, f);
-    table_places::free_at(table, p);
+    let f = what_follows(table, p, c, kind, name, information);
+    let e = write_message(space, table, p, c, k, kind, dialogue, name, information, f);
+    leave(table, p, c, k, f.fits);
     return call_entry::done(0, e as u32);
 }
 
 // A user's Abort: it "writes a message only in Received and Active".
 fn write_abort(out: &mut [u8], c: Control, portion: &[u8]) -> usize
-    requires { ⌜ FineControl c × (length (now portion) ≤ 240) × (length (abortPortion (now portion)) ≤ 240) × (272 ≤ length (now out)) ⌝ }
+    requires { ⌜ FineControl c × (length (now portion) ≤ mostWaiting) × (length (abortPortion (now portion)) ≤ mostWaiting) × (leastSpace ≤ length (now out)) ⌝ }
     ensures is { λ r. ⌜ Wrote (now (out .entry)) 0 (abortBy c (now (portion .entry))) r (now (out .exit)) ⌝ }
-    ensures within { λ r. ⌜ r ≤ 272 ⌝ }
+    ensures within { λ r. ⌜ r ≤ leastSpace ⌝ }
 {
     if peer_refusal(c.state) != 0 {
         return 0;
@@ -375,7 +286,11 @@ pub fn send_abort(
 ) -> Reply
     ensures { λ r. ⌜ Gives (outcome (record { table = now (table .entry); rows = []; space = now (space .entry) }) (OnDialogue service dialogue (Abort (now (portion .entry))))) (r .answer) (r .rows) (r .length) (r .dialogue) (record { table = now (table .exit); rows = []; space = now (space .exit) }) ⌝ }
 {
-    let m = start(table, space.len(), service, dialogue);
+    let lent = Spaces {
+        rows: 0,
+        space: space.len(),
+    };
+    let m = call_entry::enter_at(table, lent, MESSAGE_SPACE, service, dialogue);
     let answer = m.answer;
     if answer != 0 {
         return call_entry::refused(answer);

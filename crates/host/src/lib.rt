@@ -1,5 +1,8 @@
 // THE CALLS, as a C host sees them (include/tcap.h): each hands on to the crate that has it.
 use call_entry::Reply;
+use call_release::Idler;
+use call_send::Sending;
+use paper::NO_ID;
 ghost use mathlib.Core.Path.{_≡_};
 ghost use mathlib.Core.List.{[]};
 ghost use Prim.Native.Nat.{_+_, _≤_};
@@ -51,7 +54,7 @@ pub extern "C" fn tcap_invoke(
         service,
         dialogue,
         octet,
-        256,
+        NO_ID,
         class,
         operation,
         parameter,
@@ -149,7 +152,7 @@ pub extern "C" fn tcap_cancel(table: &mut [u8], service: u32, dialogue: u32, id:
     ensures { λ r. ⌜ Gives (outcome (record { table = now (table .entry); rows = []; space = [] }) (OnDialogue service dialogue (Cancel (octetOf id)))) (r .answer) (r .rows) (r .length) (r .dialogue) (record { table = now (table .exit); rows = []; space = [] }) ⌝ }
 {
     let octet = call_entry::octet_of(id);
-    call_release::cancel(table, service, dialogue, octet)
+    call_release::idle(table, service, dialogue, octet, Idler::User)
 }
 
 #[no_mangle]
@@ -163,7 +166,15 @@ pub extern "C" fn tcap_begin(
 ) -> Reply
     ensures { λ r. ⌜ Gives (outcome (record { table = now (table .entry); rows = []; space = now (space .entry) }) (OnDialogue service dialogue (Begin (now (name .entry)) (now (information .entry))))) (r .answer) (r .rows) (r .length) (r .dialogue) (record { table = now (table .exit); rows = []; space = now (space .exit) }) ⌝ }
 {
-    call_send::send_begin(table, service, dialogue, name, information, space)
+    call_send::send(
+        table,
+        service,
+        dialogue,
+        Sending::ABegin,
+        name,
+        information,
+        space,
+    )
 }
 
 #[no_mangle]
@@ -177,7 +188,15 @@ pub extern "C" fn tcap_continue(
 ) -> Reply
     ensures { λ r. ⌜ Gives (outcome (record { table = now (table .entry); rows = []; space = now (space .entry) }) (OnDialogue service dialogue (Continue (now (name .entry)) (now (information .entry))))) (r .answer) (r .rows) (r .length) (r .dialogue) (record { table = now (table .exit); rows = []; space = now (space .exit) }) ⌝ }
 {
-    call_send::send_continue(table, service, dialogue, name, information, space)
+    call_send::send(
+        table,
+        service,
+        dialogue,
+        Sending::AContinue,
+        name,
+        information,
+        space,
+    )
 }
 
 #[no_mangle]
@@ -191,7 +210,15 @@ pub extern "C" fn tcap_end(
 ) -> Reply
     ensures { λ r. ⌜ Gives (outcome (record { table = now (table .entry); rows = []; space = now (space .entry) }) (OnDialogue service dialogue (End (now (name .entry)) (now (information .entry))))) (r .answer) (r .rows) (r .length) (r .dialogue) (record { table = now (table .exit); rows = []; space = now (space .exit) }) ⌝ }
 {
-    call_send::send_end(table, service, dialogue, name, information, space)
+    call_send::send(
+        table,
+        service,
+        dialogue,
+        Sending::AnEnd,
+        name,
+        information,
+        space,
+    )
 }
 
 #[no_mangle]
@@ -225,7 +252,15 @@ pub extern "C" fn tcap_unidirectional(
 ) -> Reply
     ensures { λ r. ⌜ Gives (outcome (record { table = now (table .entry); rows = []; space = now (space .entry) }) (OnDialogue service dialogue (Unidirectional (now (name .entry)) (now (information .entry))))) (r .answer) (r .rows) (r .length) (r .dialogue) (record { table = now (table .exit); rows = []; space = now (space .exit) }) ⌝ }
 {
-    call_send::send_unidirectional(table, service, dialogue, name, information, space)
+    call_send::send(
+        table,
+        service,
+        dialogue,
+        Sending::AUnidirectional,
+        name,
+        information,
+        space,
+    )
 }
 
 #[no_mangle]
@@ -265,7 +300,7 @@ pub extern "C" fn tcap_reject_timeout(
     ensures { λ r. ⌜ Gives (outcome (record { table = now (table .entry); rows = []; space = [] }) (OnDialogue service dialogue (RejectTimeout (octetOf id)))) (r .answer) (r .rows) (r .length) (r .dialogue) (record { table = now (table .exit); rows = []; space = [] }) ⌝ }
 {
     let octet = call_entry::octet_of(id);
-    call_release::reject_timeout(table, service, dialogue, octet)
+    call_release::idle(table, service, dialogue, octet, Idler::RejectTimer)
 }
 
 #[no_mangle]

@@ -3,6 +3,8 @@ ghost use Prim.Native.Nat.{_<_};
 use crate::asked;
 use crate::show;
 use call_entry::Reply;
+use call_release::Idler;
+use call_send::Sending;
 use program_words::Pair;
 
 // The answer that no call gives: a line that cannot be read.
@@ -80,13 +82,13 @@ fn on_invocation(table: &mut [u8], rows: &mut [u8], line: &[u8]) -> Reply {
     let n = asked::on_invocation(line);
     if n.ok {
         if asked::verb(line, b"cancel") {
-            return call_release::cancel(table, n.service, n.dialogue, n.id);
+            return call_release::idle(table, n.service, n.dialogue, n.id, Idler::User);
         }
         if asked::verb(line, b"timeout") {
             return call_release::timeout(table, n.service, n.dialogue, n.id, rows);
         }
         if asked::verb(line, b"rejtimeout") {
-            return call_release::reject_timeout(table, n.service, n.dialogue, n.id);
+            return call_release::idle(table, n.service, n.dialogue, n.id, Idler::RejectTimer);
         }
     }
     unread()
@@ -161,19 +163,44 @@ fn send(table: &mut [u8], space: &mut [u8], line: &[u8], given: Pair) -> Reply {
     let information = program_words::cut(line, given.second);
     if n.ok {
         if asked::verb(line, b"begin") {
-            return call_send::send_begin(table, service, dialogue, name, information, space);
-        }
-        if asked::verb(line, b"continue") {
-            return call_send::send_continue(table, service, dialogue, name, information, space);
-        }
-        if asked::verb(line, b"end") {
-            return call_send::send_end(table, service, dialogue, name, information, space);
-        }
-        if asked::verb(line, b"uni") {
-            return call_send::send_unidirectional(
+            return call_send::send(
                 table,
                 service,
                 dialogue,
+                Sending::ABegin,
+                name,
+                information,
+                space,
+            );
+        }
+        if asked::verb(line, b"continue") {
+            return call_send::send(
+                table,
+                service,
+                dialogue,
+                Sending::AContinue,
+                name,
+                information,
+                space,
+            );
+        }
+        if asked::verb(line, b"end") {
+            return call_send::send(
+                table,
+                service,
+                dialogue,
+                Sending::AnEnd,
+                name,
+                information,
+                space,
+            );
+        }
+        if asked::verb(line, b"uni") {
+            return call_send::send(
+                table,
+                service,
+                dialogue,
+                Sending::AUnidirectional,
                 name,
                 information,
                 space,

@@ -1,5 +1,6 @@
 // A line as a call, by its number of fields and its verb.
 use call_entry::Reply;
+use call_send::Sending;
 use paper::NO_ID;
 use paper::ROW_UNI;
 use program_digits::Number;
@@ -66,7 +67,7 @@ fn begin(table: &mut [u8], space: &mut [u8], line: &[u8]) -> Played {
     let d = program_digits::read_dialogue(part(line, 2));
     if s.ok && d.ok {
         let none = &line[0..0];
-        let r = call_send::send_begin(table, s.value, d.value, none, none, space);
+        let r = call_send::send(table, s.value, d.value, Sending::ABegin, none, none, space);
         return about(r, true, d.value);
     }
     unread()

@@ -1,31 +1,42 @@
 use mathlib.Core.Path.{_≡_, sym, _∙_}
 use native.Mathlib.Omega.{arith}
 use Rattle.paper.specs.Layout.{view}
-use Rattle.call_entry.specs.Prologue.{enters-not, enters-service, enters}
+use Rattle.call_entry.specs.Prologue.{spaces, enters-no, rows-few, space-small, table-no, service-no, enters}
 use borrow.Author.Needs.{needs}
 use Rattle.call_entry.proofs.enter.Statement.{statement}
 use Rattle.call_entry.proofs.enter.Tie as tie
 
-check-requires : tie.Need-check-requires
-check-requires c κs = search needs
-
 returns : tie.Need-returns
 returns c =
-    let a = c .before .before .before .args in
-    enters-not (a .t .now) (a .service) (c .before .check .result .answer) _ (c .before .check .ensures .is) (omega arith)
+    let args = c .before .before .before .before .args in
+    enters-no (args .t .now) _ _ (args .service) 1 _ (rows-few _ (spaces (args .lent)) (spaces (args .least)) _ (omega arith)) (omega arith)
 
 returns-2 : tie.Need-returns-2
 returns-2 c =
-    let b = c .before .before in
-    let a = b .before .before .args in
-    let z : 0 ≡ b .check .result .answer = omega arith in
-    enters-service (a .t .now) (a .service) _ (z ∙ b .check .ensures .is) (omega arith)
+    let args = c .before .before .before .before .before .before .before .args in
+    enters-no (args .t .now) _ _ (args .service) 1 _ (space-small _ (spaces (args .lent)) (spaces (args .least)) _ (omega arith) (omega arith)) (omega arith)
 
-array-read-wide : tie.Need-array-read-wide
-array-read-wide c = search needs
+check-requires : tie.Need-check-requires
+check-requires c κs = search needs
 
-wide-requires : tie.Need-wide-requires
-wide-requires c κs = search needs
+returns-3 : tie.Need-returns-3
+returns-3 c =
+    let args = c .before .before .before .before .before .before .before .before .before .args in
+    let check = c .before .check in
+    enters-no (args .t .now) _ _ (args .service) (check .result .answer) _ (table-no _ (spaces (args .lent)) (spaces (args .least)) _ (omega arith) (omega arith) _ (check .ensures .is) (omega arith)) (omega arith)
+
+returns-4 : tie.Need-returns-4
+returns-4 c =
+    let args = c .before .before .before .before .before .before .before .before .before .before .args in
+    let check = c .before .before .check in
+    let z : 0 ≡ check .result .answer = omega arith in
+    enters-no (args .t .now) _ _ (args .service) 3 _ (service-no _ (spaces (args .lent)) (spaces (args .least)) _ (omega arith) (omega arith) (z ∙ check .ensures .is) (omega arith)) (omega arith)
+
+array-read-number : tie.Need-array-read-number
+array-read-number c = search needs
+
+number-requires : tie.Need-number-requires
+number-requires c κs = search needs
 
 sub-share-at : tie.Need-sub-share-at
 sub-share-at c = search needs
@@ -57,26 +68,28 @@ share-at-requires c κs = search needs
 gives-place-requires : tie.Need-gives-place-requires
 gives-place-requires c κs = search needs
 
-returns-3 : tie.Need-returns-3
+returns-5 : tie.Need-returns-5
 unfolding view
-returns-3 c =
+returns-5 c =
     let k = c .before .before .before .before in
     let b = k .before .before .before .before in
-    let a = b .before .before .args in
-    let z : b .check .result .answer ≡ 0 = omega arith in
-    enters (a .t .now) (a .service) (b .check .result .counts) (b .check .result .unused) (b .check .result .free) (sym z ∙ b .check .ensures .is)
-    (b .check .ensures .fine z) (omega arith) (c .gives-place .result) _ _ _ (k .wide .ensures) (c .before .share-at .ensures .0) (c .before .share-at .ensures .1)
-    (c .gives-place .ensures)
+    let args = b .before .before .before .before .before .before .before .before .args in
+    let check = b .check in
+    let z : check .result .answer ≡ 0 = omega arith in
+    enters (args .t .now) (spaces (args .lent)) (spaces (args .least)) (args .service) (omega arith) (omega arith) (check .result .counts) (check .result .unused) (check .result .free) (sym z ∙ check .ensures .is)
+    (check .ensures .fine z) (omega arith) (c .gives-place .result) _ _ _ (k .number .ensures .0) (c .before .share-at .ensures .0) (c .before .share-at .ensures .1) (c .gives-place .ensures)
 
 pub enter-spec : {M : Type 1} → statement M
 enter-spec =
     tie.close
     (tie.spec
-    check-requires
     returns
     returns-2
-    array-read-wide
-    wide-requires
+    check-requires
+    returns-3
+    returns-4
+    array-read-number
+    number-requires
     sub-share-at
     part-share-at-start
     part-share-at-end
@@ -85,4 +98,4 @@ enter-spec =
     part-share-at-end-2
     share-at-requires
     gives-place-requires
-    returns-3)
+    returns-5)

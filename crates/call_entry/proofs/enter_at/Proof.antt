@@ -1,7 +1,7 @@
 use mathlib.Core.Path.{_≡_, refl, sym, subst, _∙_}
 use native.Mathlib.Omega.{arith}
 use Prim.Native.Nat.{ℕ}
-use Rattle.call_entry.specs.Prologue.{Enters, meets-not, meets-none, meets}
+use Rattle.call_entry.specs.Prologue.{spaces, Enters, meets-not, meets-none, meets}
 use borrow.Author.Needs.{needs}
 use Rattle.call_entry.proofs.enter_at.Statement.{statement}
 use Rattle.call_entry.proofs.enter_at.Tie as tie
@@ -11,34 +11,37 @@ enter-requires c κs = search needs
 
 returns : tie.Need-returns
 returns c =
-    let a = c .before .before .before .args in
-    meets-not (a .t .now) (a .service) (a .dialogue) (c .before .enter .result .answer) (c .before .enter .result .may) 0 (c .before .enter .ensures) (omega arith)
+    let args = c .before .before .before .args in
+    let enter = c .before .enter in
+    meets-not (args .t .now) _ _ (args .service) (args .dialogue) (enter .result .answer) (enter .result .may) 0 (enter .ensures) (omega arith)
 
 owner-requires : tie.Need-owner-requires
 owner-requires c κs =
-    let z : c .before .enter .result .answer ≡ 0 = omega arith in
-    c .before .enter .ensures .inside z .ready .long
+    let enter = c .before .enter in
+    let z : enter .result .answer ≡ 0 = omega arith in enter .ensures .inside z .ready .long
 
 cast-p : tie.Need-cast-p
 cast-p c = search needs
 
 returns-2 : tie.Need-returns-2
 returns-2 c =
-    let b = c .before .before .before in
-    let a = b .before .before .args in
-    let z : b .enter .result .answer ≡ 0 = omega arith in
-    meets (a .t .now) (a .service) (a .dialogue) (b .enter .result .may)
-    (subst (λ (n : ℕ). Enters (a .t .now) (a .service) n (b .enter .result .may)) z (b .enter .ensures))
-    (sym (c .if2 .taken) ∙ c .before .owner .ensures) _ refl
+    let args = c .before .before .before .before .before .args in
+    let enter = c .before .before .before .enter in
+    let owner = c .before .owner in
+    let if2 = c .if2 in
+    let z : enter .result .answer ≡ 0 = omega arith in
+    meets (args .t .now) _ _ (args .service) (args .dialogue) (enter .result .may)
+    (subst (λ (n : ℕ). Enters (args .t .now) (spaces (args .lent)) (spaces (args .least)) (args .service) n (enter .result .may)) z (enter .ensures)) (sym (if2 .taken) ∙ owner .ensures) _ refl
 
 returns-3 : tie.Need-returns-3
 returns-3 c =
-    let b = c .before .before .before in
-    let a = b .before .before .args in
-    let z : b .enter .result .answer ≡ 0 = omega arith in
-    meets-none (a .t .now) (a .service) (a .dialogue) (b .enter .result .may)
-    (subst (λ (n : ℕ). Enters (a .t .now) (a .service) n (b .enter .result .may)) z (b .enter .ensures))
-    0 (sym (c .if2 .left) ∙ c .before .owner .ensures)
+    let args = c .before .before .before .before .before .args in
+    let enter = c .before .before .before .enter in
+    let owner = c .before .owner in
+    let if2 = c .if2 in
+    let z : enter .result .answer ≡ 0 = omega arith in
+    meets-none (args .t .now) _ _ (args .service) (args .dialogue) (enter .result .may)
+    (subst (λ (n : ℕ). Enters (args .t .now) (spaces (args .lent)) (spaces (args .least)) (args .service) n (enter .result .may)) z (enter .ensures)) 0 (sym (if2 .left) ∙ owner .ensures)
 
 pub enter-at-spec : {M : Type 1} → statement M
 enter-at-spec =

@@ -1,8 +1,7 @@
 use Rattle.table_places.specs.Storing.{withWaiting}
 use Rattle.paper.specs.Layout.{encode, view}
 use Rattle.paper.specs.Calls.{withPlace}
-use Rattle.call_open.specs.Opened.{open-no, open-there, open-storing, open-done}
-use Rattle.call_entry.specs.Ends.{open-refused}
+use Rattle.call_open.specs.Opened.{open-refused, open-no, open-there, open-storing, open-done}
 use Rattle.table_places.specs.Storing.{Storing}
 use Rattle.paper.specs.declared.Control.{Control}
 use mathlib.Core.List.{[]}
@@ -26,7 +25,7 @@ returns c =
     let args = c .before .before .before .before .before .args in
     let enter = c .before .before .enter in
     let refused = c .refused in
-    open-refused (record { table = args .table .now; rows = []; space = [] }) (args .service) (omega arith, omega arith) (enter .result .answer) (enter .ensures .is) (omega arith) (refused .ensures)
+    open-refused (args .table .now) (args .service) (enter .result .answer) (enter .ensures .is) (omega arith) (refused .ensures)
 
 lowest-place-requires : tie.Need-lowest-place-requires
 lowest-place-requires c κs =
@@ -58,7 +57,7 @@ cast-begun : tie.Need-cast-begun
 cast-begun c =
     let enter = c .before .before .before .before .before .before .before .before .enter in
     let if1 = c .before .before .before .before .before .before .before .if1 in
-    omega (arith, enter .ensures .inside (if1 .left) .service)
+    omega (arith, enter .ensures .inside (if1 .left) .within .service)
 
 begun-requires : tie.Need-begun-requires
 begun-requires c κs = search needs

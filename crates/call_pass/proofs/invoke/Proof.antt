@@ -27,21 +27,21 @@ same-length c = search needs
 returns : tie.Need-returns
 returns c =
     let args = c .before .before .before .before .before .before .before .args in
-    let if1 = c .before .if1 in
     let enter-at = c .before .before .enter-at in
+    let if1 = c .before .if1 in
     let refused = c .refused in
-    dialogue-refused (only (args .table .now)) (args .service) (args .dialogue) (Invoke (args .id) (args .linked) (args .class) (args .operation .now) (args .parameter .now)) (omega arith, omega arith) (enter-at .result .answer) (enter-at .ensures .is) (omega (arith, if1)) (refused .ensures)
+    dialogue-refused (only (args .table .now)) (args .service) (args .dialogue) (Invoke (args .id) (args .linked) (args .class) (args .operation .now) (args .parameter .now)) (enter-at .result .answer) (enter-at .ensures .is) (omega (arith, if1)) (refused .ensures)
 
 load-requires : tie.Need-load-requires
 load-requires c κs =
-    let if1 = c .before .if1 in
     let enter-at = c .before .before .enter-at in
+    let if1 = c .before .if1 in
     let u = enter-at .ensures .inside (if1 .left) .used in (u .small, u .ready .long)
 
 waiting-length-requires : tie.Need-waiting-length-requires
 waiting-length-requires c κs =
-    let if1 = c .before .before .before .if1 in
     let enter-at = c .before .before .before .before .enter-at in
+    let if1 = c .before .before .before .if1 in
     let u = enter-at .ensures .inside (if1 .left) .used in (u .ready, u .small)
 
 invoke-refusal-requires : tie.Need-invoke-refusal-requires
@@ -57,14 +57,14 @@ returns-2 : tie.Need-returns-2
 unfolding refusal
 returns-2 c =
     let args = c .before .before .before .before .before .before .before .before .before .before .before .before .before .args in
-    let if1 = c .before .before .before .before .before .before .before .if1 in
-    let if2 = c .before .if2 in
     let enter-at = c .before .before .before .before .before .before .before .before .enter-at in
+    let if1 = c .before .before .before .before .before .before .before .if1 in
     let load = c .before .before .before .before .before .load in
     let waiting-length = c .before .before .before .waiting-length in
     let invoke-refusal = c .before .before .invoke-refusal in
+    let if2 = c .before .if2 in
     let refused2 = c .refused2 in
-    dialogue-no (only (args .table .now)) (args .service) (args .dialogue) (Invoke (args .id) (args .linked) (args .class) (args .operation .now) (args .parameter .now)) (omega arith, omega arith) (enter-at .result .place) (enter-at .ensures .inside (if1 .left))
+    dialogue-no (only (args .table .now)) (args .service) (args .dialogue) (Invoke (args .id) (args .linked) (args .class) (args .operation .now) (args .parameter .now)) (enter-at .result .place) (enter-at .ensures .inside (if1 .left))
     (invoke-refusal .result) (invoke-refusal .ensures (placeAt (view (args .table .now)) (enter-at .result .place)) (sym (load .ensures)) (sym (waiting-length .ensures .0))) (omega (arith, if2)) (refused2 .ensures)
 
 idle-slot-requires : tie.Need-idle-slot-requires
@@ -73,22 +73,22 @@ idle-slot-requires c κs = search needs
 cast-pass : tie.Need-cast-pass
 cast-pass c =
     let args = c .before .before .before .before .before .before .before .before .before .before .before .before .before .before .args in
-    let if2 = c .before .before .if2 in
     let enter-at = c .before .before .before .before .before .before .before .before .before .enter-at in
     let load = c .before .before .before .before .before .before .load in
     let waiting-length = c .before .before .before .before .waiting-length in
     let invoke-refusal = c .before .before .before .invoke-refusal in
+    let if2 = c .before .before .if2 in
     let x = placeAt (view (args .table .now)) (enter-at .result .place) in
     omega (arith, invoke-in x (waiting-length .result) (sym (waiting-length .ensures .0)) (args .id) (args .linked) (args .class) (args .operation .now) (args .parameter .now) (sym (if2 .left) ∙ invoke-refusal .ensures x (sym (load .ensures)) (sym (waiting-length .ensures .0))) .0)
 
 pass-requires : tie.Need-pass-requires
 pass-requires c κs =
     let args = c .before .before .before .before .before .before .before .before .before .before .before .before .before .before .args in
-    let if2 = c .before .before .if2 in
     let enter-at = c .before .before .before .before .before .before .before .before .before .enter-at in
     let load = c .before .before .before .before .before .before .load in
     let waiting-length = c .before .before .before .before .waiting-length in
     let invoke-refusal = c .before .before .before .invoke-refusal in
+    let if2 = c .before .before .if2 in
     let idle-slot = c .idle-slot in
     let x = placeAt (view (args .table .now)) (enter-at .result .place) in
     let i = invoke-in x (waiting-length .result) (sym (waiting-length .ensures .0)) (args .id) (args .linked) (args .class) (args .operation .now) (args .parameter .now) (sym (if2 .left) ∙ invoke-refusal .ensures x (sym (load .ensures)) (sym (waiting-length .ensures .0))) in
@@ -97,14 +97,14 @@ pass-requires c κs =
 
 put-invoke-requires : tie.Need-put-invoke-requires
 put-invoke-requires c κs =
-    let args = c .before .before .before .before .before .before .before .before .before .before .before .before .before .before .before .before .args in
     let pre = c .before .before .before .before .before .before .before .before .before .before .before .before .before .before .before .before .pre in
-    let if1 = c .before .before .before .before .before .before .before .before .before .before .if1 in
-    let if2 = c .before .before .before .before .if2 in
+    let args = c .before .before .before .before .before .before .before .before .before .before .before .before .before .before .before .before .args in
     let enter-at = c .before .before .before .before .before .before .before .before .before .before .before .enter-at in
+    let if1 = c .before .before .before .before .before .before .before .before .before .before .if1 in
     let load = c .before .before .before .before .before .before .before .before .load in
     let waiting-length = c .before .before .before .before .before .before .waiting-length in
     let invoke-refusal = c .before .before .before .before .before .invoke-refusal in
+    let if2 = c .before .before .before .before .if2 in
     let pass = c .before .pass in
     let x = placeAt (view (args .table .now)) (enter-at .result .place) in
     let i = invoke-in x (waiting-length .result) (sym (waiting-length .ensures .0)) (args .id) (args .linked) (args .class) (args .operation .now) (args .parameter .now) (sym (if2 .left) ∙ invoke-refusal .ensures x (sym (load .ensures)) (sym (waiting-length .ensures .0))) in
@@ -120,17 +120,17 @@ returns-3 : tie.Need-returns-3
 unfolding refusal does
 returns-3 c =
     let args = c .before .before .before .before .before .before .before .before .before .before .before .before .before .before .before .before .before .before .before .before .args in
-    let if1 = c .before .before .before .before .before .before .before .before .before .before .before .before .before .before .if1 in
-    let if2 = c .before .before .before .before .before .before .before .before .if2 in
     let enter-at = c .before .before .before .before .before .before .before .before .before .before .before .before .before .before .before .enter-at in
+    let if1 = c .before .before .before .before .before .before .before .before .before .before .before .before .before .before .if1 in
     let load = c .before .before .before .before .before .before .before .before .before .before .before .before .load in
     let waiting-length = c .before .before .before .before .before .before .before .before .before .before .waiting-length in
     let invoke-refusal = c .before .before .before .before .before .before .before .before .before .invoke-refusal in
+    let if2 = c .before .before .before .before .before .before .before .before .if2 in
     let pass = c .before .before .before .before .before .pass in
     let put-invoke = c .before .before .before .put-invoke in
     let done = c .done in
     let x = placeAt (view (args .table .now)) (enter-at .result .place) in
-    pass-done (args .table .now) (args .service) (args .dialogue) (Invoke (args .id) (args .linked) (args .class) (args .operation .now) (args .parameter .now)) (omega arith, omega arith) (enter-at .result .place) (enter-at .ensures .inside (if1 .left))
+    pass-done (args .table .now) (args .service) (args .dialogue) (Invoke (args .id) (args .linked) (args .class) (args .operation .now) (args .parameter .now)) (enter-at .result .place) (enter-at .ensures .inside (if1 .left))
     (pass .result) _ _ (sym (if2 .left) ∙ invoke-refusal .ensures x (sym (load .ensures)) (sym (waiting-length .ensures .0))) refl (pass .ensures ∙ ap (λ (k : Control). passed k (args .id) (args .class)) (load .ensures)) (done .ensures) (put-invoke .ensures)
 
 pub invoke-spec : {M : Type 1} → statement M

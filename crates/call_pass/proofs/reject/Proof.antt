@@ -30,21 +30,21 @@ same-length c = search needs
 returns : tie.Need-returns
 returns c =
     let args = c .before .before .before .before .before .args in
-    let if1 = c .before .if1 in
     let enter-at = c .before .before .enter-at in
+    let if1 = c .before .if1 in
     let refused = c .refused in
-    dialogue-refused (only (args .table .now)) (args .service) (args .dialogue) (UserReject (args .id) (args .problem)) (omega arith, omega arith) (enter-at .result .answer) (enter-at .ensures .is) (omega (arith, if1)) (refused .ensures)
+    dialogue-refused (only (args .table .now)) (args .service) (args .dialogue) (UserReject (args .id) (args .problem)) (enter-at .result .answer) (enter-at .ensures .is) (omega (arith, if1)) (refused .ensures)
 
 load-requires : tie.Need-load-requires
 load-requires c κs =
-    let if1 = c .before .if1 in
     let enter-at = c .before .before .enter-at in
+    let if1 = c .before .if1 in
     let u = enter-at .ensures .inside (if1 .left) .used in (u .small, u .ready .long)
 
 waiting-length-requires : tie.Need-waiting-length-requires
 waiting-length-requires c κs =
-    let if1 = c .before .before .before .if1 in
     let enter-at = c .before .before .before .before .enter-at in
+    let if1 = c .before .before .before .if1 in
     let u = enter-at .ensures .inside (if1 .left) .used in (u .ready, u .small)
 
 reject-refusal-requires : tie.Need-reject-refusal-requires
@@ -60,25 +60,25 @@ returns-2 : tie.Need-returns-2
 unfolding refusal
 returns-2 c =
     let args = c .before .before .before .before .before .before .before .before .before .before .before .args in
-    let if1 = c .before .before .before .before .before .before .before .if1 in
-    let if2 = c .before .if2 in
     let enter-at = c .before .before .before .before .before .before .before .before .enter-at in
+    let if1 = c .before .before .before .before .before .before .before .if1 in
     let load = c .before .before .before .before .before .load in
     let waiting-length = c .before .before .before .waiting-length in
     let reject-refusal = c .before .before .reject-refusal in
+    let if2 = c .before .if2 in
     let refused2 = c .refused2 in
-    dialogue-no (only (args .table .now)) (args .service) (args .dialogue) (UserReject (args .id) (args .problem)) (omega arith, omega arith) (enter-at .result .place) (enter-at .ensures .inside (if1 .left))
+    dialogue-no (only (args .table .now)) (args .service) (args .dialogue) (UserReject (args .id) (args .problem)) (enter-at .result .place) (enter-at .ensures .inside (if1 .left))
     (reject-refusal .result) (reject-refusal .ensures (placeAt (view (args .table .now)) (enter-at .result .place)) (sym (load .ensures)) (sym (waiting-length .ensures .0))) (omega (arith, if2)) (refused2 .ensures)
 
 rejected-by-requires : tie.Need-rejected-by-requires
 rejected-by-requires c κs =
     let args = c .before .before .before .before .before .before .before .before .before .before .args in
-    let if1 = c .before .before .before .before .before .before .if1 in
-    let if2 = c .if2 in
     let enter-at = c .before .before .before .before .before .before .before .enter-at in
+    let if1 = c .before .before .before .before .before .before .if1 in
     let load = c .before .before .before .before .load in
     let waiting-length = c .before .before .waiting-length in
     let reject-refusal = c .before .reject-refusal in
+    let if2 = c .if2 in
     let x = placeAt (view (args .table .now)) (enter-at .result .place) in
     let i = reject-in x (waiting-length .result) (sym (waiting-length .ensures .0)) (args .id) (args .problem) (sym (if2 .left) ∙ reject-refusal .ensures x (sym (load .ensures)) (sym (waiting-length .ensures .0))) in
     λ n. subst (λ (k : Control). slotOf (k .invocations) (args .id) < 8) (sym (load .ensures))
@@ -87,13 +87,12 @@ rejected-by-requires c κs =
 put-reject-requires : tie.Need-put-reject-requires
 put-reject-requires c κs =
     let args = c .before .before .before .before .before .before .before .before .before .before .before .before .args in
-    let pre = c .before .before .before .before .before .before .before .before .before .before .before .before .pre in
-    let if1 = c .before .before .before .before .before .before .before .before .if1 in
-    let if2 = c .before .before .if2 in
     let enter-at = c .before .before .before .before .before .before .before .before .before .enter-at in
+    let if1 = c .before .before .before .before .before .before .before .before .if1 in
     let load = c .before .before .before .before .before .before .load in
     let waiting-length = c .before .before .before .before .waiting-length in
     let reject-refusal = c .before .before .before .reject-refusal in
+    let if2 = c .before .before .if2 in
     let rejected-by = c .before .rejected-by in
     let x = placeAt (view (args .table .now)) (enter-at .result .place) in
     let i = reject-in x (waiting-length .result) (sym (waiting-length .ensures .0)) (args .id) (args .problem) (sym (if2 .left) ∙ reject-refusal .ensures x (sym (load .ensures)) (sym (waiting-length .ensures .0))) in
@@ -109,17 +108,17 @@ returns-3 : tie.Need-returns-3
 unfolding refusal does
 returns-3 c =
     let args = c .before .before .before .before .before .before .before .before .before .before .before .before .before .before .before .before .args in
-    let if1 = c .before .before .before .before .before .before .before .before .before .before .before .before .if1 in
-    let if2 = c .before .before .before .before .before .before .if2 in
     let enter-at = c .before .before .before .before .before .before .before .before .before .before .before .before .before .enter-at in
+    let if1 = c .before .before .before .before .before .before .before .before .before .before .before .before .if1 in
     let load = c .before .before .before .before .before .before .before .before .before .before .load in
     let waiting-length = c .before .before .before .before .before .before .before .before .waiting-length in
     let reject-refusal = c .before .before .before .before .before .before .before .reject-refusal in
+    let if2 = c .before .before .before .before .before .before .if2 in
     let rejected-by = c .before .before .before .before .before .rejected-by in
     let put-reject = c .before .before .before .put-reject in
     let done = c .done in
     let x = placeAt (view (args .table .now)) (enter-at .result .place) in
-    pass-done (args .table .now) (args .service) (args .dialogue) (UserReject (args .id) (args .problem)) (omega arith, omega arith) (enter-at .result .place) (enter-at .ensures .inside (if1 .left))
+    pass-done (args .table .now) (args .service) (args .dialogue) (UserReject (args .id) (args .problem)) (enter-at .result .place) (enter-at .ensures .inside (if1 .left))
     (rejected-by .result) _ _ (sym (if2 .left) ∙ reject-refusal .ensures x (sym (load .ensures)) (sym (waiting-length .ensures .0))) refl (rejected-by .ensures ∙ ap (λ (k : Control). rejectedBy k (args .id) (args .problem)) (load .ensures)) (done .ensures) (put-reject .ensures)
 
 pub reject-spec : {M : Type 1} → statement M

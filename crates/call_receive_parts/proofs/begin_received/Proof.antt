@@ -9,14 +9,15 @@ use borrow.Author.Needs.{needs}
 use Rattle.call_receive_parts.proofs.begin_received.Statement.{statement}
 use Rattle.call_receive_parts.proofs.begin_received.Tie as tie
 
-may-begin-requires : tie.Need-may-begin-requires
-may-begin-requires c κs = search needs
-
 lowest-place-requires : tie.Need-lowest-place-requires
 lowest-place-requires c κs = search needs
 
 begin-at-requires : tie.Need-begin-at-requires
-begin-at-requires c κs = let p = c .before .before .before .before .before .before .before .before .before .before .before .pre in (lowest-standing _ _ _ (p .0) (sym (c .before .before .before .before .before .may-begin .ensures) ∙ c .before .before .before .before .if1 .taken) _ (c .before .before .lowest-place .ensures .0), p .0 .service, p .1, p .2, p .4)
+begin-at-requires c κs =
+    let pre = c .before .before .before .before .before .before .before .before .before .pre in
+    let if1 = c .before .before .before .before .if1 in
+    let lowest-place = c .before .before .lowest-place in
+    (lowest-standing _ _ _ (pre .0) (if1 .taken) _ (lowest-place .ensures .0), pre .0 .service, pre .1, pre .2, pre .4)
 
 same-length : tie.Need-same-length
 same-length c = search needs
@@ -26,8 +27,13 @@ same-length-2 c = search needs
 
 returns : tie.Need-returns
 unfolding beginReceived
-returns c = let a = c .before .before .before .before .before .before .before .before .before .before .before .before .before .before .before .before .args in
-    receives-as (yes _ _ _ (sym (c .before .before .before .before .before .before .before .before .before .before .may-begin .ensures) ∙ c .before .before .before .before .before .before .before .before .before .if1 .taken) (ap (λ (k : ℕ). beginAt (view (a .t .now)) (a .service) k (a .s .now) (a .m)) (c .before .before .before .before .before .before .before .lowest-place .ensures .0))) (leaves-receives (c .before .before .before .before .begin-at .ensures))
+returns c =
+    let pre = c .before .before .before .before .before .before .before .before .before .before .before .before .before .before .pre in
+    let args = c .before .before .before .before .before .before .before .before .before .before .before .before .before .before .args in
+    let if1 = c .before .before .before .before .before .before .before .before .before .if1 in
+    let lowest-place = c .before .before .before .before .before .before .before .lowest-place in
+    let begin-at = c .before .before .before .before .begin-at in
+    receives-as (yes _ _ _ (sym (pre .0 .is) ∙ if1 .taken) (ap (λ (k : ℕ). beginAt (view (args .t .now)) (args .service) k (args .s .now) (args .m)) (lowest-place .ensures .0))) (leaves-receives (begin-at .ensures))
 
 faulted-requires : tie.Need-faulted-requires
 faulted-requires c κs = search needs
@@ -43,13 +49,16 @@ same-length-5 c = search needs
 
 returns-2 : tie.Need-returns-2
 unfolding beginReceived
-returns-2 c = receives-as (no _ _ _ (sym (c .before .before .before .before .before .before .before .before .before .before .before .may-begin .ensures) ∙ c .before .before .before .before .before .before .before .before .before .before .if1 .left) refl) (c .before .before .before .before .before .before .faulted .ensures)
+returns-2 c =
+    let pre = c .before .before .before .before .before .before .before .before .before .before .before .before .before .before .before .pre in
+    let if1 = c .before .before .before .before .before .before .before .before .before .before .if1 in
+    let faulted = c .before .before .before .before .before .before .faulted in
+    receives-as (no _ _ _ (sym (pre .0 .is) ∙ if1 .left) refl) (faulted .ensures)
 
 pub begin-received-spec : {M : Type 1} → statement M
 begin-received-spec =
     tie.close
     (tie.spec
-    may-begin-requires
     lowest-place-requires
     begin-at-requires
     same-length

@@ -22,15 +22,14 @@ same-length c = search needs
 returns : tie.Need-returns
 returns c =
     let args = c .before .before .before .before .before .args in
-    let if1 = c .before .if1 in
     let enter-at = c .before .before .enter-at in
     let refused = c .refused in
-    dialogue-refused (only (args .table .now)) (args .service) (args .dialogue) Prearranged (omega arith, omega arith) (enter-at .result .answer) (enter-at .ensures .is) (omega arith) (refused .ensures)
+    dialogue-refused (only (args .table .now)) (args .service) (args .dialogue) Prearranged (enter-at .result .answer) (enter-at .ensures .is) (omega arith) (refused .ensures)
 
 free-at-requires : tie.Need-free-at-requires
 free-at-requires c κs =
-    let if1 = c .before .if1 in
     let enter-at = c .before .before .enter-at in
+    let if1 = c .before .if1 in
     let u = enter-at .ensures .inside (if1 .left) .used in (u .ready, u .small, u .told)
 
 done-requires : tie.Need-done-requires
@@ -43,11 +42,11 @@ returns-2 : tie.Need-returns-2
 unfolding refusal does
 returns-2 c =
     let args = c .before .before .before .before .before .before .before .before .before .args in
-    let if1 = c .before .before .before .before .before .if1 in
     let enter-at = c .before .before .before .before .before .before .enter-at in
+    let if1 = c .before .before .before .before .before .if1 in
     let free-at = c .before .before .before .free-at in
     let done = c .done in
-    dialogue-changed (only (args .table .now)) (args .service) (args .dialogue) Prearranged (omega arith, omega arith) (enter-at .result .place) (enter-at .ensures .inside (if1 .left))
+    dialogue-changed (only (args .table .now)) (args .service) (args .dialogue) Prearranged (enter-at .result .place) (enter-at .ensures .inside (if1 .left))
     (freed (placeAt (view (args .table .now)) (enter-at .result .place))) refl refl (done .ensures) (free-at .ensures)
 
 pub end-prearranged-spec : {M : Type 1} → statement M

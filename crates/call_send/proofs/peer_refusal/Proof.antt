@@ -1,7 +1,7 @@
 use mathlib.Core.Path.{refl, _∙_}
 use native.Mathlib.Omega.{arith}
 use Rattle.laws.specs.If.{eq, ne}
-use Rattle.call_send.specs.Starts.{peer-tests}
+use Rattle.call_send.specs.Sendings.{peer-tests}
 use Rattle.call_send.proofs.peer_refusal.Statement.{statement}
 use Rattle.call_send.proofs.peer_refusal.Tie as tie
 

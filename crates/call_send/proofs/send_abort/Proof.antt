@@ -5,15 +5,17 @@ use Rattle.paper.specs.Dialogues.{Place, freed, does, refusal, abortMessage}
 use Rattle.paper.specs.Dialogues.Request.{Abort}
 use Rattle.paper.specs.Calls.{placeAt}
 use Rattle.paper.specs.Layout.{view}
+use Rattle.call_entry.specs.Replies.{withSpace}
+use Rattle.call_entry.specs.Ends.{dialogue-refused, dialogue-no}
 use Rattle.call_send_parts.specs.Sent.{holds-fine}
 use Rattle.call_send_parts.specs.Refused.{abort-octets}
-use Rattle.call_send.specs.Starts.{started-holds, send-refused, send-no, send-done, abort-is}
+use Rattle.call_send.specs.Sendings.{inside-holds, send-done, abort-is}
 use borrow.Author.Needs.{needs}
 use Rattle.call_send.proofs.send_abort.Statement.{statement}
 use Rattle.call_send.proofs.send_abort.Tie as tie
 
-start-requires : tie.Need-start-requires
-start-requires c κs = search needs
+enter-at-requires : tie.Need-enter-at-requires
+enter-at-requires c κs = search needs
 
 refused-requires : tie.Need-refused-requires
 refused-requires c κs = search needs
@@ -24,9 +26,9 @@ same-length c = search needs
 returns : tie.Need-returns
 returns c =
     let args = c .before .before .before .before .before .before .before .args in
-    let start = c .before .before .start in
+    let enter-at = c .before .before .enter-at in
     let refused = c .refused in
-    send-refused (args .table .now) (args .space .now) (args .service) (args .dialogue) (Abort (args .portion .now)) refl (start .result .answer) (start .result .place) (start .ensures) (omega arith) (refused .ensures)
+    dialogue-refused (withSpace (args .table .now) (args .space .now)) (args .service) (args .dialogue) (Abort (args .portion .now)) (enter-at .result .answer) (enter-at .ensures .is) (omega arith) (refused .ensures)
 
 abort-refusal-requires : tie.Need-abort-refusal-requires
 abort-refusal-requires c κs = search needs
@@ -41,35 +43,35 @@ returns-2 : tie.Need-returns-2
 unfolding refusal
 returns-2 c =
     let args = c .before .before .before .before .before .before .before .before .before .args in
-    let start = c .before .before .before .before .start in
+    let enter-at = c .before .before .before .before .enter-at in
     let if1 = c .before .before .before .if1 in
     let abort-refusal = c .before .before .abort-refusal in
     let refused2 = c .refused2 in
-    send-no (args .table .now) (args .space .now) (args .service) (args .dialogue) (Abort (args .portion .now)) refl (start .result .answer) (start .result .place) (start .ensures) (if1 .left) (abort-refusal .result) (abort-refusal .ensures) (omega arith) (refused2 .ensures)
+    dialogue-no (withSpace (args .table .now) (args .space .now)) (args .service) (args .dialogue) (Abort (args .portion .now)) (enter-at .result .place) (enter-at .ensures .inside (if1 .left)) (abort-refusal .result) (abort-refusal .ensures) (omega arith) (refused2 .ensures)
 
 load-requires : tie.Need-load-requires
 load-requires c κs =
-    let start = c .before .before .before .before .start in
+    let enter-at = c .before .before .before .before .enter-at in
     let if1 = c .before .before .before .if1 in
-    (start .ensures .inside (if1 .left) .used .small, start .ensures .inside (if1 .left) .used .ready .long)
+    let u = enter-at .ensures .inside (if1 .left) .used in (u .small, u .ready .long)
 
 write-abort-requires : tie.Need-write-abort-requires
 write-abort-requires c κs =
     let args = c .before .before .before .before .before .before .before .before .before .before .before .args in
-    let start = c .before .before .before .before .before .before .start in
+    let enter-at = c .before .before .before .before .before .before .enter-at in
     let if1 = c .before .before .before .before .before .if1 in
-    let load = c .before .load in
     let abort-refusal = c .before .before .before .before .abort-refusal in
     let if2 = c .before .before .before .if2 in
+    let load = c .before .load in
     let short = abort-octets (args .portion .now) (sym (if2 .left) ∙ abort-refusal .ensures) in
-    (holds-fine (started-holds (start .ensures) (if1 .left) (load .ensures)), short .0, short .1, start .ensures .room (if1 .left))
+    let i = enter-at .ensures .inside (if1 .left) in
+    (holds-fine (inside-holds i (load .ensures)), short .0, short .1, i .within .long .1)
 
 free-at-requires : tie.Need-free-at-requires
 free-at-requires c κs =
-    let start = c .before .before .before .before .before .before .before .before .before .before .start in
+    let enter-at = c .before .before .before .before .before .before .before .before .before .before .enter-at in
     let if1 = c .before .before .before .before .before .before .before .before .before .if1 in
-    let used = start .ensures .inside (if1 .left) .used in
-    (used .ready, used .small, used .told)
+    let u = enter-at .ensures .inside (if1 .left) .used in (u .ready, u .small, u .told)
 
 cast-done : tie.Need-cast-done
 cast-done c = search needs
@@ -87,7 +89,7 @@ returns-3 : tie.Need-returns-3
 unfolding refusal does
 returns-3 c =
     let args = c .before .before .before .before .before .before .before .before .before .before .before .before .before .before .before .before .before .before .before .args in
-    let start = c .before .before .before .before .before .before .before .before .before .before .before .before .before .before .start in
+    let enter-at = c .before .before .before .before .before .before .before .before .before .before .before .before .before .before .enter-at in
     let if1 = c .before .before .before .before .before .before .before .before .before .before .before .before .before .if1 in
     let abort-refusal = c .before .before .before .before .before .before .before .before .before .before .before .before .abort-refusal in
     let if2 = c .before .before .before .before .before .before .before .before .before .before .before .if2 in
@@ -95,8 +97,8 @@ returns-3 c =
     let write-abort = c .before .before .before .before .before .before .before .write-abort in
     let free-at = c .before .before .before .free-at in
     let done = c .done in
-    let x : Place = placeAt (view (args .table .now)) (start .result .place) in
-    send-done (args .table .now) (args .space .now) (args .service) (args .dialogue) (Abort (args .portion .now)) refl (start .result .answer) (start .result .place) (start .ensures) (if1 .left)
+    let x : Place = placeAt (view (args .table .now)) (enter-at .result .place) in
+    send-done (args .table .now) (args .space .now) (args .service) (args .dialogue) (Abort (args .portion .now)) (enter-at .result .place) (enter-at .ensures .inside (if1 .left))
     (freed x) (abortMessage x (args .portion .now)) (sym (if2 .left) ∙ abort-refusal .ensures) refl
     (write-abort .result) (free-at .last .0) (write-abort .last .0) (free-at .ensures) (wrote-as (write-abort .ensures .0) (abort-is x (load .result) (load .ensures) (args .portion .now))) (done .ensures)
 
@@ -104,7 +106,7 @@ pub send-abort-spec : {M : Type 1} → statement M
 send-abort-spec =
     tie.close
     (tie.spec
-    start-requires
+    enter-at-requires
     refused-requires
     same-length
     returns

@@ -9,8 +9,8 @@ use Rattle.host.proofs.tcap_cancel.Tie as tie
 octet-of-requires : tie.Need-octet-of-requires
 octet-of-requires c κs = search needs
 
-cancel-requires : tie.Need-cancel-requires
-cancel-requires c κs = search needs
+idle-requires : tie.Need-idle-requires
+idle-requires c κs = search needs
 
 same-length : tie.Need-same-length
 same-length c = search needs
@@ -19,7 +19,7 @@ returns : tie.Need-returns
 returns c =
     let start = c .before .before .before .before .before .before in
     let a = start .args in
-    of-octet _ (λ (o : ℕ). OnDialogue (a .service) (a .dialogue) (Cancel o)) (a .id) (start .fits .id) (c .before .before .before .before .octet-of .ensures) (c .before .before .cancel .ensures)
+    of-octet _ (λ (o : ℕ). OnDialogue (a .service) (a .dialogue) (Cancel o)) (a .id) (start .fits .id) (c .before .before .before .before .octet-of .ensures) (c .before .before .idle .ensures)
 
 pub tcap-cancel-spec : {M : Type 1} → statement M
-tcap-cancel-spec = tie.close (tie.spec octet-of-requires cancel-requires same-length returns)
+tcap-cancel-spec = tie.close (tie.spec octet-of-requires idle-requires same-length returns)

@@ -9,8 +9,8 @@ use Rattle.host.proofs.tcap_reject_timeout.Tie as tie
 octet-of-requires : tie.Need-octet-of-requires
 octet-of-requires c κs = search needs
 
-reject-timeout-requires : tie.Need-reject-timeout-requires
-reject-timeout-requires c κs = search needs
+idle-requires : tie.Need-idle-requires
+idle-requires c κs = search needs
 
 same-length : tie.Need-same-length
 same-length c = search needs
@@ -19,8 +19,8 @@ returns : tie.Need-returns
 returns c =
     let start = c .before .before .before .before .before .before in
     let a = start .args in
-    of-octet _ (λ (o : ℕ). OnDialogue (a .service) (a .dialogue) (RejectTimeout o)) (a .id) (start .fits .id) (c .before .before .before .before .octet-of .ensures) (c .before .before .reject-timeout .ensures)
+    of-octet _ (λ (o : ℕ). OnDialogue (a .service) (a .dialogue) (RejectTimeout o)) (a .id) (start .fits .id) (c .before .before .before .before .octet-of .ensures) (c .before .before .idle .ensures)
 
 pub tcap-reject-timeout-spec : {M : Type 1} → statement M
 tcap-reject-timeout-spec =
-    tie.close (tie.spec octet-of-requires reject-timeout-requires same-length returns)
+    tie.close (tie.spec octet-of-requires idle-requires same-length returns)
