@@ -166,15 +166,8 @@ pub extern "C" fn tcap_begin(
 ) -> Reply
     ensures { λ r. ⌜ Gives (outcome (record { table = now (table .entry); rows = []; space = now (space .entry) }) (OnDialogue service dialogue (Begin (now (name .entry)) (now (information .entry))))) (r .answer) (r .rows) (r .length) (r .dialogue) (record { table = now (table .exit); rows = []; space = now (space .exit) }) ⌝ }
 {
-    call_send::send(
-        table,
-        service,
-        dialogue,
-        Sending::ABegin,
-        name,
-        information,
-        space,
-    )
+    let begin = Sending::ABegin;
+    call_send::send(table, service, dialogue, begin, name, information, space)
 }
 
 #[no_mangle]
@@ -188,15 +181,8 @@ pub extern "C" fn tcap_continue(
 ) -> Reply
     ensures { λ r. ⌜ Gives (outcome (record { table = now (table .entry); rows = []; space = now (space .entry) }) (OnDialogue service dialogue (Continue (now (name .entry)) (now (information .entry))))) (r .answer) (r .rows) (r .length) (r .dialogue) (record { table = now (table .exit); rows = []; space = now (space .exit) }) ⌝ }
 {
-    call_send::send(
-        table,
-        service,
-        dialogue,
-        Sending::AContinue,
-        name,
-        information,
-        space,
-    )
+    let next = Sending::AContinue;
+    call_send::send(table, service, dialogue, next, name, information, space)
 }
 
 #[no_mangle]
@@ -210,15 +196,8 @@ pub extern "C" fn tcap_end(
 ) -> Reply
     ensures { λ r. ⌜ Gives (outcome (record { table = now (table .entry); rows = []; space = now (space .entry) }) (OnDialogue service dialogue (End (now (name .entry)) (now (information .entry))))) (r .answer) (r .rows) (r .length) (r .dialogue) (record { table = now (table .exit); rows = []; space = now (space .exit) }) ⌝ }
 {
-    call_send::send(
-        table,
-        service,
-        dialogue,
-        Sending::AnEnd,
-        name,
-        information,
-        space,
-    )
+    let end = Sending::AnEnd;
+    call_send::send(table, service, dialogue, end, name, information, space)
 }
 
 #[no_mangle]
@@ -252,15 +231,8 @@ pub extern "C" fn tcap_unidirectional(
 ) -> Reply
     ensures { λ r. ⌜ Gives (outcome (record { table = now (table .entry); rows = []; space = now (space .entry) }) (OnDialogue service dialogue (Unidirectional (now (name .entry)) (now (information .entry))))) (r .answer) (r .rows) (r .length) (r .dialogue) (record { table = now (table .exit); rows = []; space = now (space .exit) }) ⌝ }
 {
-    call_send::send(
-        table,
-        service,
-        dialogue,
-        Sending::AUnidirectional,
-        name,
-        information,
-        space,
-    )
+    let alone = Sending::AUnidirectional;
+    call_send::send(table, service, dialogue, alone, name, information, space)
 }
 
 #[no_mangle]
