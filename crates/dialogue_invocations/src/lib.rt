@@ -226,23 +226,17 @@ fn transmit_all(l: [Invocation; 8]) -> [Invocation; 8]
     m
 }
 
-// One that was Rejecting to Idle.
-fn settle(c: Control, v: Invocation) -> Control
-    ensures { λ r. ⌜ r ≡ ifEq (v .state) rejecting (toIdle c (v .id)) c ⌝ }
-{
-    if v.state == REJECTING {
-        return release(c, laws::number(v.id));
-    }
-    c
-}
-
+// Each that was Rejecting to Idle. Most sendings have none: the record is touched only where one is.
 fn settle_all(c: Control, l: [Invocation; 8]) -> Control
     ensures { λ r. ⌜ r ≡ allIdle c (rejectingIDs l) ⌝ }
 {
     let mut d = c;
     let mut i: usize = 0;
     while i < 8 {
-        d = settle(d, l[i]);
+        let v = l[i];
+        if v.state == REJECTING {
+            d = release(d, laws::number(v.id));
+        }
         i += 1;
     }
     d

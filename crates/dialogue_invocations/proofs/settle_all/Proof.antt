@@ -1,8 +1,9 @@
 use native.Mathlib.Omega.{arith}
 use native.Mathlib.Numerals.{add-one}
 use mathlib.Core.Path.{_≡_, refl, sym, ap, _∙_}
-use mathlib.Core.List.{List, []}
-use Prim.Native.Nat.{ℕ, suc, _+_, _-_, _≤_, _<_}
+use mathlib.Core.List.{List}
+use mathlib.Core.Logic.{⊎-elim}
+use Prim.Native.Nat.{ℕ, suc, _-_, _≤_, _<_}
 use lib.ListN.{length, getD, drop, drop-of-length-le}
 use lib.Seq.{drop-cons}
 use Rattle.laws.specs.If.{ifEq, by-eq, eq, ne}
@@ -40,14 +41,17 @@ abbrev μ-loop : tie.MeasureT-loop
 loop-holds : tie.Need-loop-holds Inv-loop μ-loop
 loop-holds c = (omega arith, refl)
 
-mul-settle : tie.Need-mul-settle Inv-loop μ-loop
-mul-settle c = search needs
+mul-v : tie.Need-mul-v Inv-loop μ-loop
+mul-v c = search needs
 
-array-copy-out-settle : tie.Need-array-copy-out-settle Inv-loop μ-loop
-array-copy-out-settle c = search needs
+array-copy-out-v : tie.Need-array-copy-out-v Inv-loop μ-loop
+array-copy-out-v c = search needs
 
-settle-requires : tie.Need-settle-requires Inv-loop μ-loop
-settle-requires c κs = search needs
+number-requires : tie.Need-number-requires Inv-loop μ-loop
+number-requires c κs = search needs
+
+release-requires : tie.Need-release-requires Inv-loop μ-loop
+release-requires c κs = search needs
 
 add-i : tie.Need-add-i Inv-loop μ-loop
 add-i c = search needs
@@ -57,11 +61,13 @@ loop-less c = search needs
 
 loop-again : tie.Need-loop-again Inv-loop μ-loop
 loop-again c =
-    let b = c .before .before .before in
-    let n : length (b .before .args .t2) ≡ 8 = b .before .good .1 .0 .1 .0 .1 in (
+    let b = c .before .before .before .before in
+    let n : length (b .before .args .t2) ≡ 8 = b .before .good .1 .0 .1 .0 .1 in
+    let e : c .if1 .d ≡ ifEq (v (b .before .args .t2) (b .loop .i) .state) rejecting (toIdle (b .loop .d) (v (b .before .args .t2) (b .loop .i) .id)) (b .loop .d) =
+    ⊎-elim (λ t. eq _ _ _ _ (t .0 .taken) (t .3 ∙ t .2 .ensures ∙ ap (toIdle (b .loop .d)) (t .1 .ensures .0))) (λ t. ne _ _ _ _ (t .0 .left) (t .1)) (c .if1 .came) in (
       omega arith,
-      ap (λ (k : ℕ). allIdle (c .settle .result) (rejectingIDs (drop k (b .before .args .t2)))) (add-one (b .loop .i))
-          ∙ more (b .before .args .t2) (b .loop .i) (b .loop .d) (c .settle .result) (omega arith) (c .settle .ensures) ∙ b .loop .inv .1,
+      ap (λ (k : ℕ). allIdle (c .if1 .d) (rejectingIDs (drop k (b .before .args .t2)))) (add-one (b .loop .i))
+          ∙ more (b .before .args .t2) (b .loop .i) (b .loop .d) (c .if1 .d) (omega arith) e ∙ b .loop .inv .1,
     )
 
 returns : tie.Need-returns Inv-loop μ-loop
@@ -77,9 +83,10 @@ settle-all-spec =
     Inv-loop
     μ-loop
     loop-holds
-    mul-settle
-    array-copy-out-settle
-    settle-requires
+    mul-v
+    array-copy-out-v
+    number-requires
+    release-requires
     add-i
     loop-less
     loop-again
