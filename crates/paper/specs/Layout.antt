@@ -51,6 +51,25 @@ placeOctets x = laidOut placeFields x
 abbrev pub placeSize : ℕ
 placeSize = total placeFields
 
+-- the numbers of those that laws speak of, in the list above
+abbrev pub peerField : ℕ
+peerField = 4
+
+abbrev pub waitingLengthField : ℕ
+waitingLengthField = 5
+
+abbrev pub countField : ℕ
+countField = 6
+
+abbrev pub invocationsField : ℕ
+invocationsField = 7
+
+abbrev pub rejectsField : ℕ
+rejectsField = 8
+
+abbrev pub waitingField : ℕ
+waitingField = 9
+
 -- where each begins
 abbrev pub turnAt : ℕ
 turnAt = offset placeFields 0
@@ -65,22 +84,22 @@ abbrev pub peerLengthAt : ℕ
 peerLengthAt = offset placeFields 3
 
 abbrev pub peerAt : ℕ
-peerAt = offset placeFields 4
+peerAt = offset placeFields peerField
 
 abbrev pub waitingLengthAt : ℕ
-waitingLengthAt = offset placeFields 5
+waitingLengthAt = offset placeFields waitingLengthField
 
 abbrev pub countAt : ℕ
-countAt = offset placeFields 6
+countAt = offset placeFields countField
 
 abbrev pub firstInvocation : ℕ
-firstInvocation = offset placeFields 7
+firstInvocation = offset placeFields invocationsField
 
 abbrev pub firstReject : ℕ
-firstReject = offset placeFields 8
+firstReject = offset placeFields rejectsField
 
 abbrev pub waitingStart : ℕ
-waitingStart = offset placeFields 9
+waitingStart = offset placeFields waitingField
 
 -- "a map of 64-bit words, one bit a place": bit p is set where place p is free, each word's octets least significant first
 unfoldable pub flag : Place → ℕ

@@ -18,7 +18,7 @@ use Rattle.paper.specs.Sizes.{mostInvocations, mostRejects, mostWaiting, turns}
 use Rattle.paper.specs.Problems.{kindOf, codeOf}
 use Rattle.paper.specs.Invocations.{noInvocation}
 use Rattle.paper.specs.Dialogues.{Place, noReject}
-use Rattle.paper.specs.Layout.{invocationMark, rejectMark, placeFields, placeOctets, placeSize, stateAt, serviceAt, peerLengthAt, peerAt, waitingLengthAt, countAt, firstInvocation, firstReject, waitingStart, tableFields, invocationBy, rejectBy, placeBy}
+use Rattle.paper.specs.Layout.{invocationMark, rejectMark, placeFields, peerField, waitingLengthField, countField, invocationsField, rejectsField, waitingField, placeOctets, placeSize, stateAt, serviceAt, peerLengthAt, peerAt, waitingLengthAt, countAt, firstInvocation, firstReject, waitingStart, tableFields, invocationBy, rejectBy, placeBy}
 use Rattle.table_laws.specs.Zeros.{pad-length, pad-of, pad-rest}
 use Rattle.table_laws.specs.Fine.{Octets, FineInvocation, FineRejects, FineControl}
 use Rattle.table_laws.specs.Kept.{same-invocation, same-reject, layer-small}
@@ -63,7 +63,7 @@ read-length s = laid-length placeFields (placeBy s) (lists-sized (placeBy s) ref
 
 -- all but the last: a control record, and how many octets wait
 abbrev beforeWaiting : Place → List ℕ
-beforeWaiting x = laidOut (take 9 placeFields) x
+beforeWaiting x = laidOut (take waitingField placeFields) x
 
 abbrev pub controlOctets : Control → ℕ → List ℕ
 controlOctets c n = beforeWaiting (record { control = c; waiting = replicate n 0 })
@@ -75,13 +75,13 @@ waitingFrom p = offset tableFields 3 + waitingStart + p * placeSize
 pub controlOctets-length : (c : Control) (n : ℕ) → FineControl c → length (controlOctets c n) ≡ waitingStart
 controlOctets-length c n f =
     let x : Place = record { control = c; waiting = replicate n 0 } in
-    laid-length (take 9 placeFields) x (sized-take placeFields x (place-sized x f) 9)
+    laid-length (take waitingField placeFields) x (sized-take placeFields x (place-sized x f) waitingField)
 
 pub place-split : (x : Place) → placeOctets x ≡ controlOctets (x .control) (length (x .waiting)) ++ pad mostWaiting (x .waiting)
 place-split x =
     let n : length {A = ℕ} (replicate (length (x .waiting)) 0) ≡ length (x .waiting) = length-replicate (length (x .waiting)) 0 in
     let q : controlOctets (x .control) (length (x .waiting)) ≡ beforeWaiting x = rw n in
-    laid-split placeFields x 9 ∙ ap (λ (l : List ℕ). l ++ pad mostWaiting (x .waiting)) (sym q)
+    laid-split placeFields x waitingField ∙ ap (λ (l : List ℕ). l ++ pad mostWaiting (x .waiting)) (sym q)
 
 -- ---- FROM OCTETS
 parts-of : (o : ℕ) → o % 8 + o / 8 % 16 * 8 + o / 128 * 128 ≡ o
@@ -151,10 +151,10 @@ module _ (x : Place) (f : FineControl (x .control)) where
   octet-from i k = sym (getD-drop (offset placeFields i) (placeOctets x) k 0) ∙ ap (λ (l : List ℕ). getD l k 0) (laid-drop placeFields x sized i)
 
   pub length-at : getD (placeOctets x) waitingLengthAt 0 ≡ length (x .waiting)
-  length-at = octet-from 5 0
+  length-at = octet-from waitingLengthField 0
 
   pub waiting-at : drop waitingStart (placeOctets x) ≡ pad mostWaiting (x .waiting)
-  waiting-at = laid-drop placeFields x sized 9
+  waiting-at = laid-drop placeFields x sized waitingField
 
   -- the record is had back
   pub place-back : length (x .waiting) ≤ mostWaiting → placeBy (placeOctets x) ≡ x
@@ -162,14 +162,14 @@ module _ (x : Place) (f : FineControl (x .control)) where
   place-back h =
       let s : List ℕ = placeOctets x in
       let t : x .control .turn / 65536 % 256 * 65536 + x .control .turn / 256 % 256 * 256 + x .control .turn % 256 ≡ x .control .turn = omega (arith, f .turn) in
-      let p : span 4 peerAt s ≡ x .control .peer = span-part 4 peerAt s (omega (arith, long)) ∙ field-at placeFields x sized 4 in
-      let k : getD s countAt 0 ≡ x .control .count = octet-from 6 0 in
+      let p : span 4 peerAt s ≡ x .control .peer = span-part 4 peerAt s (omega (arith, long)) ∙ field-at placeFields x sized peerField in
+      let k : getD s countAt 0 ≡ x .control .count = octet-from countField 0 in
       let v : pairsAt invocationBy mostInvocations firstInvocation s ≡ x .control .invocations =
-      pairs-at (λ v. v .id) invocationMark invocationBy (x .control .invocations) noInvocation mostInvocations firstInvocation s (laidOut (drop 8 placeFields) x)
-      (λ i l. invocation-back (getD (x .control .invocations) i noInvocation) (f .invocations .each i l)) (f .eight) (omega (arith, long)) (laid-drop placeFields x sized 7) in
+      pairs-at (λ v. v .id) invocationMark invocationBy (x .control .invocations) noInvocation mostInvocations firstInvocation s (laidOut (drop (suc invocationsField) placeFields) x)
+      (λ i l. invocation-back (getD (x .control .invocations) i noInvocation) (f .invocations .each i l)) (f .eight) (omega (arith, long)) (laid-drop placeFields x sized invocationsField) in
       let r : pairsAt rejectBy mostRejects firstReject s ≡ x .control .rejects =
-      pairs-at (λ r. r .id % 256) rejectMark rejectBy (x .control .rejects) noReject mostRejects firstReject s (laidOut (drop 9 placeFields) x)
-      (λ i l. reject-back (getD (x .control .rejects) i noReject) (rejects-small (x .control .count) (x .control .rejects) (f .rejects) i l)) (f .eights) (omega (arith, long)) (laid-drop placeFields x sized 8) in
+      pairs-at (λ r. r .id % 256) rejectMark rejectBy (x .control .rejects) noReject mostRejects firstReject s (laidOut (drop (suc rejectsField) placeFields) x)
+      (λ i l. reject-back (getD (x .control .rejects) i noReject) (rejects-small (x .control .count) (x .control .rejects) (f .rejects) i l)) (f .eights) (omega (arith, long)) (laid-drop placeFields x sized rejectsField) in
       let w : take (getD s waitingLengthAt 0) (drop waitingStart s) ≡ x .waiting =
       ap (λ (n : ℕ). take n (drop waitingStart s)) length-at ∙ ap (take (length (x .waiting))) waiting-at ∙ pad-rest mostWaiting (x .waiting) h .0 in
       rw (t, p, k, v, r, w)

@@ -97,9 +97,9 @@ pub record KeptSlot (s : List ℕ) (bit : ℕ) : Type 0 where
 
 module _ (s : List ℕ) (e : length s ≡ placeSize) (h : Octets s) where
   -- "a free place is all zero but its turn"
-  blank : zeros (drop stateAt s) ≡ true → s ≡ getD s 0 0 ∷ getD s 1 0 ∷ getD s 2 0 ∷ replicate 281 0
+  blank : zeros (drop stateAt s) ≡ true → s ≡ getD s 0 0 ∷ getD s 1 0 ∷ getD s 2 0 ∷ replicate (placeSize - stateAt) 0
   blank z =
-      let n : length (drop stateAt s) ≡ 281 = simp length-drop (omega arith) in
+      let n : length (drop stateAt s) ≡ placeSize - stateAt = simp length-drop (omega arith) in
       sym (span-drop stateAt 0 s (omega arith))
       ∙ ap (λ (l : List ℕ). getD s 0 0 ∷ getD s 1 0 ∷ getD s 2 0 ∷ l) (zeros-are (drop stateAt s) z ∙ ap (λ (k : ℕ). replicate k 0) n)
 
@@ -142,8 +142,8 @@ module _ (x : Place) (f : FinePlace x) where
   blank-octets : x .control .state ≡ 0 → zeros (drop stateAt (placeOctets x)) ≡ true
   blank-octets st =
       ap (λ (y : Place). zeros (drop stateAt (placeOctets y))) (f .free st)
-      ∙ ap (λ (l : List ℕ). zeros (replicate 41 0 ++ l)) (pad-none mostWaiting)
-      ∙ zeros-of 281
+      ∙ ap (λ (l : List ℕ). zeros (replicate (waitingStart - stateAt) 0 ++ l)) (pad-none mostWaiting)
+      ∙ zeros-of (placeSize - stateAt)
 
   zero-octets : zeros (drop (waitingStart + getD (placeOctets x) waitingLengthAt 0) (placeOctets x)) ≡ true
   zero-octets =
