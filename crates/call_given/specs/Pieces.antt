@@ -8,6 +8,7 @@ use lib.Dec.{eqb}
 use lib.ListN.{length}
 use borrow.Author.Tests.{eqb-true}
 use Rattle.laws.specs.If.{ifLt, ifB, lt, ge, eq, yes, no, by-eq}
+use Rattle.paper.specs.Sizes.{mostWaiting}
 use Rattle.paper.specs.Dialogues.{isCode, isParameter, isResult}
 use Rattle.paper.specs.declared.Reading.{Reading}
 use Rattle.paper.specs.Elements.{element, endsAt, isElement}
@@ -15,7 +16,7 @@ use Rattle.writing_octets.specs.Lengths.{elementSize, resultSize, length-small,
 
 -- what is over 240 octets where n wait
 abbrev pub overBy : ℕ → ℕ → ℕ
-overBy n size = ifLt 240 (n + size) 12 0
+overBy n size = ifLt mostWaiting (n + size) 12 0
 
 -- of an invoke or an error, with so many octets before the operation or error
 unfoldable pub piecesRefusal : ℕ → ℕ → List ℕ → List ℕ → ℕ
@@ -35,14 +36,14 @@ module _ (n front : ℕ) (code par : List ℕ) where
     pieces-parameter f = yes _ _ _ e (no _ _ _ f refl)
 
     module _ (f : isParameter par ≡ true) where
-      pub pieces-over : 240 < n + elementSize (front + length code + length par) → 12 ≡ piecesRefusal n front code par
+      pub pieces-over : mostWaiting < n + elementSize (front + length code + length par) → 12 ≡ piecesRefusal n front code par
       unfolding piecesRefusal
       pieces-over h = yes _ _ _ e (yes _ _ _ f (lt _ _ _ _ h refl))
 
-      pub pieces-long : 240 < length code + length par → 12 ≡ piecesRefusal n front code par
+      pub pieces-long : mostWaiting < length code + length par → 12 ≡ piecesRefusal n front code par
       pieces-long h = pieces-over (omega arith)
 
-      pub pieces-fit : n + elementSize (front + length code + length par) ≤ 240 → 0 ≡ piecesRefusal n front code par
+      pub pieces-fit : n + elementSize (front + length code + length par) ≤ mostWaiting → 0 ≡ piecesRefusal n front code par
       unfolding piecesRefusal
       pieces-fit h = yes _ _ _ e (yes _ _ _ f (ge _ _ _ _ h refl))
 
@@ -57,15 +58,15 @@ module _ (n : ℕ) (op par : List ℕ) where
   both-wrong e = no _ _ _ e refl
 
   module _ (e : isResult op par ≡ true) where
-    pub both-over : 240 < n + resultSize op par → 12 ≡ bothRefusal n op par
+    pub both-over : mostWaiting < n + resultSize op par → 12 ≡ bothRefusal n op par
     unfolding bothRefusal
     both-over h = yes _ _ _ e (lt _ _ _ _ h refl)
 
-    pub both-fit : n + resultSize op par ≤ 240 → 0 ≡ bothRefusal n op par
+    pub both-fit : n + resultSize op par ≤ mostWaiting → 0 ≡ bothRefusal n op par
     unfolding bothRefusal
     both-fit h = yes _ _ _ e (ge _ _ _ _ h refl)
 
-    pub both-long : 240 < length op + length par → 12 ≡ bothRefusal n op par
+    pub both-long : mostWaiting < length op + length par → 12 ≡ bothRefusal n op par
     both-long h = both-over (by-eq {A = ℕ} (length op) 0 0 0 refl (λ z _. absurd (omega (arith, none-given op par z e))) (λ z _. omega (arith, both-size op par z)))
 
 -- by how it is read

@@ -6,6 +6,7 @@ use Prim.Native.Nat.{ℕ, _+_, _≤_}
 use native.Mathlib.Omega.{arith}
 use lib.ListN.{length}
 use Rattle.laws.specs.If.{ifEq, ifB, ge, eq, ne, yes, by-eq, was-yes, was-ge}
+use Rattle.paper.specs.Sizes.{mostWaiting}
 use Rattle.paper.specs.Portions.{Form, portionBy}
 use Rattle.paper.specs.Dialogues.{Place, isName, isInformation, overfull, first, unplaced, portionRefusal}
 use Rattle.call_given.specs.Pieces.{overBy}
@@ -46,7 +47,7 @@ refusal-is x n state kind r name info a b e =
     ∙ first-malformed (isName name) (isInformation info) (first (overfull x (portionBy (formFor kind) name info)) (unplaced (x .control .state) name info))
 
 -- NOT REFUSED: waiting octets and portion are at most 240 together
-pub portion-fits : (x : Place) (f : Form) (name info : List ℕ) → 0 ≡ portionRefusal x f name info → length (x .waiting) + length (portionBy f name info) ≤ 240
+pub portion-fits : (x : Place) (f : Form) (name info : List ℕ) → 0 ≡ portionRefusal x f name info → length (x .waiting) + length (portionBy f name info) ≤ mostWaiting
 unfolding portionRefusal overfull
 portion-fits x f name info e =
     let a = was-yes _ _ _ e (λ z. omega (arith, z)) in
@@ -65,7 +66,7 @@ module _ (n state kind : ℕ) (name info : List ℕ) where
       l ∙ ap (λ (k : ℕ). first k m) h ∙ ap (first (malformed name info)) later
 
   -- neither given: no portion, and no refusal
-  pub refusal-none : length name ≡ 0 → length info ≡ 0 → n ≤ 240 → 0 ≡ refusalOf n state kind name info
+  pub refusal-none : length name ≡ 0 → length info ≡ 0 → n ≤ mostWaiting → 0 ≡ refusalOf n state kind name info
   unfolding malformed isName isInformation unplaced portionBy
   refusal-none a b h =
       let p : [] ≡ portionBy (formFor kind) name info = eq _ _ _ _ (omega arith) refl in

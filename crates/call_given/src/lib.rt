@@ -1,8 +1,10 @@
 // Octets given by a user (01, answers 11 and 12): one well-formed element of its kind, and not over 240 octets. Slices of any length.
+use paper::MOST_WAITING;
 use paper::Reading;
 ghost use mathlib.Core.Path.{_≡_};
 ghost use Prim.Native.Nat.{_+_, _≤_};
 ghost use lib.ListN.{length};
+ghost use Rattle.paper.specs.Sizes.{mostWaiting};
 ghost use Rattle.paper.specs.Elements.{isElement};
 ghost use Rattle.paper.specs.Dialogues.{isCode, isParameter, isResult, isPortion, isName, isBlock, isInformation, first, unplaced};
 ghost use Rattle.paper.specs.Portions.{portionBy};
@@ -106,19 +108,19 @@ pub fn is_information(l: &[u8]) -> bool
 
 // Of an invoke or an error where n octets wait: 11, 12 or 0. `front` octets stand before the operation or error.
 pub fn pieces_refusal(n: usize, front: usize, code: &[u8], par: &[u8]) -> u32
-    requires { ⌜ (n ≤ 240) × (front ≤ 6) ⌝ }
+    requires { ⌜ (n ≤ mostWaiting) × (front ≤ 6) ⌝ }
     ensures { λ r. ⌜ r ≡ piecesRefusal n front (now (code .entry)) (now (par .entry)) ⌝ }
 {
     if is_code(code) {
         if is_parameter(par) {
-            if code.len() > 240 {
+            if code.len() > MOST_WAITING {
                 return 12;
             }
-            if par.len() > 240 {
+            if par.len() > MOST_WAITING {
                 return 12;
             }
             let size = writing_octets::element_size(front + code.len() + par.len());
-            if n + size > 240 {
+            if n + size > MOST_WAITING {
                 return 12;
             }
             return 0;
@@ -130,18 +132,18 @@ pub fn pieces_refusal(n: usize, front: usize, code: &[u8], par: &[u8]) -> u32
 
 // Of a result.
 pub fn both_refusal(n: usize, op: &[u8], par: &[u8]) -> u32
-    requires { ⌜ n ≤ 240 ⌝ }
+    requires { ⌜ n ≤ mostWaiting ⌝ }
     ensures { λ r. ⌜ r ≡ bothRefusal n (now (op .entry)) (now (par .entry)) ⌝ }
 {
     if is_result(op, par) {
-        if op.len() > 240 {
+        if op.len() > MOST_WAITING {
             return 12;
         }
-        if par.len() > 240 {
+        if par.len() > MOST_WAITING {
             return 12;
         }
         let size = writing_components::result_size(op, par);
-        if n + size > 240 {
+        if n + size > MOST_WAITING {
             return 12;
         }
         return 0;
@@ -180,17 +182,17 @@ fn malformed_by(name: &[u8], information: &[u8]) -> u32
 
 // "The 240 octets .. count the portion too" (12), with any PDU but an ABRT.
 fn overfull_by(n: usize, kind: u8, name: &[u8], information: &[u8]) -> u32
-    requires { ⌜ (n ≤ 240) × (kind ≡ 4 → ⊥) ⌝ }
+    requires { ⌜ (n ≤ mostWaiting) × (kind ≡ 4 → ⊥) ⌝ }
     ensures { λ r. ⌜ r ≡ overBy n (length (portionBy (formFor kind) (now (name .entry)) (now (information .entry)))) ⌝ }
 {
-    if name.len() > 240 {
+    if name.len() > MOST_WAITING {
         return 12;
     }
-    if information.len() > 240 {
+    if information.len() > MOST_WAITING {
         return 12;
     }
     let size = writing_portions::portion_size(kind, name.len(), information.len());
-    if n + size > 240 {
+    if n + size > MOST_WAITING {
         return 12;
     }
     return 0;
@@ -208,7 +210,7 @@ fn first_of(a: u32, b: u32) -> u32
 
 // Of a name and information of which one is given: "14 .. after 12", which is after 11.
 fn formed_refusal(n: usize, state: u8, kind: u8, name: &[u8], information: &[u8]) -> u32
-    requires { ⌜ (n ≤ 240) × (kind ≡ 4 → ⊥) ⌝ }
+    requires { ⌜ (n ≤ mostWaiting) × (kind ≡ 4 → ⊥) ⌝ }
     ensures { λ r. ⌜ r ≡ refusalOf n state kind (now (name .entry)) (now (information .entry)) ⌝ }
 {
     let wrong = malformed_by(name, information);
@@ -220,7 +222,7 @@ fn formed_refusal(n: usize, state: u8, kind: u8, name: &[u8], information: &[u8]
 
 // Of a name and information where n octets wait: none given, none refused, by two tests.
 pub fn portion_refusal(n: usize, state: u8, kind: u8, name: &[u8], information: &[u8]) -> u32
-    requires { ⌜ (n ≤ 240) × (kind ≡ 4 → ⊥) ⌝ }
+    requires { ⌜ (n ≤ mostWaiting) × (kind ≡ 4 → ⊥) ⌝ }
     ensures { λ r. ⌜ r ≡ refusalOf n state kind (now (name .entry)) (now (information .entry)) ⌝ }
 {
     if name.len() == 0 {

@@ -61,10 +61,6 @@ pub record Receives (o : Out) (r : Received) (t old new before after : List ℕ)
   pub long : r .length ≡ length (o .message)
   pub writes : after ≡ sets before 0 (o .message)
 
--- the same outcome by another name
-pub leaves-as : {o p : Out} {n : ℕ} {t old new : List ℕ} → o ≡ p → Leaves o n t old new → Leaves p n t old new
-leaves-as {n = n} {t} {old} {new} e l = subst (λ (x : Out). Leaves x n t old new) e l
-
 pub receives-as : {o p : Out} {r : Received} {t old new before after : List ℕ} → o ≡ p → Receives o r t old new before after → Receives p r t old new before after
 receives-as {r = r} {t} {old} {new} {before} {after} e l = subst (λ (x : Out). Receives x r t old new before after) e l
 

@@ -2,6 +2,7 @@
 ghost use mathlib.Core.Path.{_≡_};
 ghost use Prim.Native.Nat.{_+_, _-_, _<_, _≤_};
 ghost use lib.ListN.{length};
+ghost use Rattle.paper.specs.Sizes.{longestMessage, mostRejects, leastRows};
 ghost use Rattle.paper.specs.Components.{components, nextStart};
 ghost use Rattle.paper.specs.declared.Control.{Control};
 ghost use Rattle.call_receive_rows.specs.Shows.{Steps, Next, Shows};
@@ -73,7 +74,7 @@ pub fn show(
     rows: &mut [u8],
     me: u32,
 ) -> Shown
-    requires { ⌜ (from ≤ lim) × (lim ≤ length (now s)) × (lim ≤ 512) × (room ≤ 8) × (4096 ≤ length (now rows)) ⌝ }
+    requires { ⌜ (from ≤ lim) × (lim ≤ length (now s)) × (lim ≤ longestMessage) × (room ≤ mostRejects) × (leastRows ≤ length (now rows)) ⌝ }
     ensures { λ r. ⌜ Shows me room control (now (rows .entry)) (components (now (s .entry)) lim from) r (now (rows .exit)) ⌝ }
 {
     let mut c = control;

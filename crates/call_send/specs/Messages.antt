@@ -1,7 +1,7 @@
 -- A MESSAGE AS IT IS WRITTEN: up to its IDs, then its dialogue portion and what is sent. Assumes nothing.
 use mathlib.Core.Path.{_≡_, refl, sym, ap, _∙_}
 use mathlib.Core.Bool.{Bool}
-use mathlib.Core.List.{List, [], _∷_, _++_}
+use mathlib.Core.List.{List, [], _++_}
 use Prim.Native.Nat.{ℕ, _+_, _<_, _≤_}
 use native.Mathlib.Omega.{arith}
 use lib.ListN.{length, length-append}
@@ -28,11 +28,6 @@ pub record Follows (x : Place) (kind : ℕ) (name info : List ℕ) (q : ℕ) (fi
   pub short : (length name ≤ mostWaiting) × (length info ≤ mostWaiting)
   pub portion : q ≡ length (portionBy (formFor kind) name info)
   pub sends : Sends x q fits n
-
--- a portion of no octets is none
-pub none-given : (l : List ℕ) → length l ≡ 0 → [] ≡ l
-none-given [] h = refl
-none-given (x ∷ l) h = absurd (omega (arith, h))
 
 abbrev pub rest : List ℕ → List ℕ → List ℕ
 rest portion cs = portion ++ (componentsHead (length cs) ++ cs)

@@ -9,6 +9,7 @@ use lib.ListN.{length, getD, take, length-append}
 use lib.Seq.{take-suc}
 use borrow.Author.Tests.{le-leb, lt-leb}
 use Rattle.laws.specs.If.{ifB, yes, no}
+use Rattle.paper.specs.Sizes.{mostWaiting}
 use Rattle.paper.specs.declared.Reject.{Reject}
 use Rattle.paper.specs.declared.Control.{Control}
 use Rattle.paper.specs.Writing.{rejectOctets}
@@ -38,7 +39,7 @@ holds-fine h = subst FineControl (sym (h .control)) (h .fine .control)
 pub record Sends (x : Place) (q : ℕ) (fits : Bool) (n : ℕ) : Type 0 where
   pub fit : fits ≡ rejectsFit x q
   pub long : n ≡ length (sentComponents x fits)
-  pub most : q + n ≤ 240
+  pub most : q + n ≤ mostWaiting
 
 -- a dialogue's state that has a peer where the one before had
 abbrev pub Sendable : Control → ℕ → Type 0
@@ -112,18 +113,18 @@ module _ (x : Place) where
   sent-none fits e = no fits (x .waiting ++ waitingRejects (x .control)) (x .waiting) e refl
 
   module _ (q w n : ℕ) (a : w ≡ length (x .waiting)) (b : n ≡ length (waitingRejects (x .control))) where
-    pub fits-is : q + w + n ≤ 240 → Sends x q true (w + n)
+    pub fits-is : q + w + n ≤ mostWaiting → Sends x q true (w + n)
     unfolding rejectsFit
     fits-is h = record {
-      fit = sym (le-leb (q + (length (x .waiting) + length (waitingRejects (x .control)))) 240 (omega arith));
+      fit = sym (le-leb (q + (length (x .waiting) + length (waitingRejects (x .control)))) mostWaiting (omega arith));
       long = omega (arith, length-append (x .waiting) (waitingRejects (x .control)), ap length (sent-all true refl));
       most = omega arith;
     }
 
-    pub fits-not : 240 < q + w + n → q + w ≤ 240 → Sends x q false w
+    pub fits-not : mostWaiting < q + w + n → q + w ≤ mostWaiting → Sends x q false w
     unfolding rejectsFit
     fits-not h g = record {
-      fit = sym (lt-leb (q + (length (x .waiting) + length (waitingRejects (x .control)))) 240 (omega arith));
+      fit = sym (lt-leb (q + (length (x .waiting) + length (waitingRejects (x .control)))) mostWaiting (omega arith));
       long = a ∙ ap length (sent-none false refl);
       most = g;
     }

@@ -11,6 +11,7 @@ ghost use Prim.Native.Nat.{_+_, _<_, _≤_};
 ghost use lib.ListN.{length};
 ghost use Rattle.laws.specs.Runs.{Wrote};
 ghost use Rattle.laws.specs.Lists.{every};
+ghost use Rattle.paper.specs.Sizes.{mostWaiting};
 ghost use Rattle.paper.specs.Components.{components};
 ghost use Rattle.paper.specs.Dialogues.{ofClass4, uniRefusal, isAbort, abortPortion, abortRefusal, waitingRejects, sentComponents, withState, withoutRejects, afterSending};
 ghost use Rattle.paper.specs.Calls.{placeAt, withPlace};
@@ -63,7 +64,7 @@ pub struct Sent {
 // "then all waiting rejects if the sum is at most 240, else they wait", q octets of it the dialogue portion's (02 a): whether they go, and
 // the octets of components sent in all.
 pub fn sent_of(t: &[u8], p: usize, c: Control, q: usize) -> Sent
-    requires { ⌜ Holds (now t) p c × (q + length (placeAt (view (now t)) p .waiting) ≤ 240) ⌝ }
+    requires { ⌜ Holds (now t) p c × (q + length (placeAt (view (now t)) p .waiting) ≤ mostWaiting) ⌝ }
     ensures { λ r. ⌜ Sends (placeAt (view (now (t .entry))) p) q (r .fits) (r .length) ⌝ }
 {
     let w = table_places::waiting_length(t, p);
@@ -196,7 +197,7 @@ fn is_told(portion: &[u8]) -> bool
 
 // The octets of an abort's dialogue portion: a whole 6B as it is given, user information in an ABRT.
 pub fn abort_size(portion: &[u8]) -> usize
-    requires { ⌜ length (now portion) ≤ 240 ⌝ }
+    requires { ⌜ length (now portion) ≤ mostWaiting ⌝ }
     ensures { λ r. ⌜ r ≡ length (abortPortion (now (portion .entry))) ⌝ }
 {
     if is_told(portion) {
@@ -207,7 +208,7 @@ pub fn abort_size(portion: &[u8]) -> usize
 
 // An abort's dialogue portion.
 pub fn write_aborted(out: &mut [u8], at: usize, portion: &[u8]) -> usize
-    requires { ⌜ (length (now portion) ≤ 240) × Room (now out) at (length (abortPortion (now portion))) ⌝ }
+    requires { ⌜ (length (now portion) ≤ mostWaiting) × Room (now out) at (length (abortPortion (now portion))) ⌝ }
     ensures { λ r. ⌜ Wrote (now (out .entry)) at (abortPortion (now (portion .entry))) r (now (out .exit)) ⌝ }
 {
     if is_told(portion) {

@@ -10,5 +10,4 @@ pub mod Counted
 pub mod Shared
 pub mod StepKept
 pub mod Fresh
-pub mod Refusals
 pub mod Tables

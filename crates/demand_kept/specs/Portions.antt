@@ -6,6 +6,7 @@ use Prim.Native.Nat.{ℕ, _+_, _≤_}
 use native.Mathlib.Omega.{arith}
 use lib.ListN.{length}
 use Rattle.laws.specs.If.{by-eq, was-ge, was-eq, was-yes}
+use Rattle.paper.specs.Sizes.{mostWaiting}
 use Rattle.paper.specs.Portions.{Form, portionBy}
 use Rattle.paper.specs.Dialogues.{Place, isName, isInformation, overfull, first, unplaced, portionRefusal}
 
@@ -15,7 +16,7 @@ unfolding first
 first-none n m e = by-eq _ _ _ _ (sym e) (λ a z. (a, sym z)) (λ a z. absurd (a (sym z)))
 
 -- not 12
-pub room-told : (x : Place) (l : List ℕ) → overfull x l ≡ 0 → length (x .waiting) + length l ≤ 240
+pub room-told : (x : Place) (l : List ℕ) → overfull x l ≡ 0 → length (x .waiting) + length l ≤ mostWaiting
 unfolding overfull
 room-told x l e = was-ge _ _ _ _ (sym e) (λ z. omega arith) .0
 
@@ -26,7 +27,7 @@ named state name info e h = by-eq _ _ _ _ (sym e) (λ a z. was-eq _ _ _ _ z (λ 
 
 -- not 11, 12 or 14
 pub portion-told : (x : Place) (f : Form) (name info : List ℕ) → portionRefusal x f name info ≡ 0
-    → (isName name ≡ true) × (isInformation info ≡ true) × (length (x .waiting) + length (portionBy f name info) ≤ 240)
+    → (isName name ≡ true) × (isInformation info ≡ true) × (length (x .waiting) + length (portionBy f name info) ≤ mostWaiting)
     × (unplaced (x .control .state) name info ≡ 0)
 unfolding portionRefusal
 portion-told x f name info e =

@@ -3,16 +3,14 @@ use mathlib.Core.Path.{_≡_, refl, sym, subst}
 use mathlib.Core.Bool.{true}
 use mathlib.Core.List.{List}
 use Prim.Native.Nat.{ℕ, zero, suc}
-use native.Mathlib.Omega.{arith}
-use Rattle.laws.specs.If.{by-eq, was-eq, was-yes}
-use Rattle.paper.specs.Calls.{Out, Call, step, freshTable}
+use Rattle.laws.specs.If.{by-eq}
+use Rattle.paper.specs.Calls.{Out, Call, step}
 use Rattle.paper.specs.Layout.{view}
 use Rattle.paper.specs.Rules.{rules}
-use Rattle.paper.specs.Outcome.{Lent, Outcome, standing, spacesFor, shown, outcome, freshAnswer, freshOutcome}
+use Rattle.paper.specs.Outcome.{Lent, Outcome, standing, spacesFor, shown, outcome}
 use Rattle.table_laws.specs.Fine.{Fine}
 use Rattle.table_laws.specs.Ready.{Ready, encode-rules, encode-ready}
 use Rattle.demand_kept.specs.StepKept.{WellFormed, step-kept}
-use Rattle.demand_kept.specs.Fresh.{fresh-fine}
 
 -- a call leaves a table that keeps the rules
 module _ (l : Lent) (c : Call) (w : WellFormed c) (r : Ready (l .table)) where
@@ -31,18 +29,6 @@ module _ (l : Lent) (c : Call) (w : WellFormed c) (r : Ready (l .table)) where
           by-eq {r = shown zero l o} _ _ _ _ refl (λ a z. subst (λ (x : Outcome). Ready (x .lent .table)) (sym z) (encode-ready (o .table) after-fine))
           (λ a z. subst (λ (x : Outcome). Ready (x .lent .table)) (sym z) r)
       go (suc n) = r
-
--- and so does a fresh table
-pub fresh-ready : (t g l : List ℕ) → freshAnswer t g l ≡ 0 → Ready (freshOutcome t g l .lent .table)
-unfolding freshOutcome freshAnswer
-fresh-ready t g l e =
-    let a = was-eq _ _ _ _ (sym e) (λ z. omega arith) in
-    let b = was-eq _ _ _ _ (a .1) (λ z. omega arith) in
-    let c = was-eq _ _ _ _ (b .1) (λ z. omega arith) in
-    let d = was-yes _ _ _ (c .1) (λ z. omega arith) in
-    by-eq {r = freshOutcome t g l} _ _ _ _ refl
-    (λ p z. subst (λ (x : Outcome). Ready (x .lent .table)) (sym z) (encode-ready (freshTable g l) (fresh-fine g l (b .0) (c .0) (d .0))))
-    (λ p z. absurd (p e))
 
 -- answer 2 is never given to a table that a fresh one became
 pub ready-rules : (t : List ℕ) → Ready t → rules t ≡ true

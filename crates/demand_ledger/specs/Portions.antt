@@ -5,6 +5,7 @@ use mathlib.Core.List.{List}
 use Prim.Native.Nat.{ℕ, _+_, _≤_}
 use native.Mathlib.Omega.{arith}
 use lib.ListN.{length}
+use Rattle.paper.specs.Sizes.{mostWaiting}
 use Rattle.paper.specs.Portions.{Form, aarq, aare, audt, portionBy, spokenIn, spokenBy}
 use Rattle.paper.specs.Dialogues.{Place, isName, isInformation, isPortion, portionRefusal}
 use Rattle.demand_readback.specs.Spoken.{ours-aarq, ours-aare, ours-audt, portion-formed, aarq-spoken, aare-spoken, audt-spoken}
@@ -13,12 +14,12 @@ use Rattle.demand_kept.specs.Portions.{portion-told, named}
 pub record Given (x : Place) (f : Form) (name info : List ℕ) : Type 0 where
   pub formed : isPortion (portionBy f name info) ≡ true
   pub says : spokenIn (portionBy f name info) ≡ spokenBy f name info
-  pub room : length (portionBy f name info) + length (x .waiting) ≤ 240
+  pub room : length (portionBy f name info) + length (x .waiting) ≤ mostWaiting
 
 -- of a form whose portions are so read
 module _ (x : Place) (f : Form) (name info : List ℕ) where
   abbrev Fits : Type 0
-  Fits = length (portionBy f name info) ≤ 240
+  Fits = length (portionBy f name info) ≤ mostWaiting
 
   abbrev Named : Type 0
   Named = length name ≡ 0 → length info ≡ 0

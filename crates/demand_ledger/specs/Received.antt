@@ -12,7 +12,7 @@ use Rattle.paper.specs.declared.Message.{Message}
 use Rattle.paper.specs.declared.Invocation.{Invocation}
 use Rattle.paper.specs.declared.Control.{Control}
 use Rattle.paper.specs.declared.Row.{Row}
-use Rattle.paper.specs.Sizes.{placesInAll, services, placeOf, localID}
+use Rattle.paper.specs.Sizes.{placesInAll, services, placeOf, localID, leastSpace}
 use Rattle.paper.specs.Problems.{noProblem}
 use Rattle.paper.specs.Messages.{messageOf, isSound, noRun, uniTag, beginTag, continueTag}
 use Rattle.paper.specs.Writing.{Written, joined, causeAbortOctets}
@@ -86,7 +86,7 @@ module _ (T : Table) (f : Fine T) (L : Ledger) (g : Agrees T L) (service : ℕ) 
   pub record Heard (o : Out) : Type 0 where
     pub agrees : Agrees (o .table) (shown L service s (o .rows))
     pub says : contentOf (o .message) ≡ saidFor L service s m
-    pub fits : length (o .message) ≤ 272
+    pub fits : length (o .message) ≤ leastSpace
 
   is : {a b : Out} → a ≡ b → Heard b → Heard a
   is z h = subst Heard (sym z) h

@@ -11,7 +11,7 @@ use Rattle.laws.specs.If.{ifEq, yes, no, by-eq, by-b, was-eq, was-ge, was-yes}
 use Rattle.laws.specs.Lists.{firstAt, first-le}
 use Rattle.paper.specs.declared.Invocation.{Invocation}
 use Rattle.paper.specs.declared.Control.{Control}
-use Rattle.paper.specs.Sizes.{placeOf, idOctets}
+use Rattle.paper.specs.Sizes.{placeOf, idOctets, mostWaiting}
 use Rattle.paper.specs.Problems.{kindOf, noProblem}
 use Rattle.paper.specs.Writing.{Written, octetsOf, joined, beginOctets, continueOctets, endOctets, uniOctets}
 use Rattle.paper.specs.Invocations.{noInvocation, newOne, isIdle, idleSlot, inState, toIdle, passed}
@@ -162,10 +162,10 @@ module _ (T : Table) (f : Fine T) (L : Ledger) (g : Agrees T L) (d : ℕ) (e : E
     abbrev portion : List ℕ
     portion = portionBy k name info
 
-    small : length portion + length (joined (ws portion)) ≤ 240
+    small : length portion + length (joined (ws portion)) ≤ mostWaiting
     small = goes-few e x is (length portion) (t .room)
 
-    few : length portion + length (cs portion) ≤ 240
+    few : length portion + length (cs portion) ≤ mostWaiting
     few = omega (arith, ap length (goes-is e x is (length portion)), small)
 
     -- it is read as what the entry and the call say

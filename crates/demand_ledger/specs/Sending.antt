@@ -8,6 +8,7 @@ use lib.Dec.{leb}
 use lib.ListN.{length, getD, take, length-append}
 use borrow.Author.Tests.{leb-true}
 use Rattle.laws.specs.If.{yes, no, by-b}
+use Rattle.paper.specs.Sizes.{mostWaiting}
 use Rattle.paper.specs.declared.Reject.{Reject}
 use Rattle.paper.specs.declared.Control.{Control}
 use Rattle.paper.specs.Writing.{Written, octetsOf, joined}
@@ -56,8 +57,8 @@ module _ (e : Entry) (x : Place) (w : Is e x) where
   fit-is : (n : ℕ) → rejectsFit x n ≡ fit e n
   unfolding rejectsFit fit
   fit-is n =
-      ap (λ (l : List ℕ). leb (n + (length l + length (waitingRejects (x .control)))) 240) (w .passed)
-      ∙ ap (λ (l : List ℕ). leb (n + (length (joined (e .passed)) + length l)) 240) rejects-are
+      ap (λ (l : List ℕ). leb (n + (length l + length (waitingRejects (x .control)))) mostWaiting) (w .passed)
+      ∙ ap (λ (l : List ℕ). leb (n + (length (joined (e .passed)) + length l)) mostWaiting) rejects-are
 
   pub goes-is : (n : ℕ) → sentComponents x (rejectsFit x n) ≡ joined (goes e (fit e n))
   unfolding sentComponents goes
@@ -90,7 +91,7 @@ module _ (e : Entry) (x : Place) (w : Is e x) where
       by-b {r = afterSending x fits state .control} _ _ _ refl (λ b z. ap (λ (c : Control). c .turn) z ∙ o) (λ b z. ap (λ (c : Control). c .turn) z ∙ o)
 
   -- at most 240 octets with the portion, where it and the waiting components have no more
-  pub goes-few : (n : ℕ) → n + length (x .waiting) ≤ 240 → n + length (joined (goes e (fit e n))) ≤ 240
+  pub goes-few : (n : ℕ) → n + length (x .waiting) ≤ mostWaiting → n + length (joined (goes e (fit e n))) ≤ mostWaiting
   unfolding goes fit
   goes-few n room =
       by-b {r = goes e (fit e n)} _ _ _ refl
@@ -99,7 +100,7 @@ module _ (e : Entry) (x : Place) (w : Is e x) where
         ap (λ (l : List Written). length (joined l)) z,
         ap length (joined-append (e .passed) (e .rejects)),
         length-append (joined (e .passed)) (joined (e .rejects)),
-        leb-true (n + (length (joined (e .passed)) + length (joined (e .rejects)))) 240 b,
+        leb-true (n + (length (joined (e .passed)) + length (joined (e .rejects)))) mostWaiting b,
       ))
       (λ b z. omega (arith, ap (λ (l : List Written). length (joined l)) z, ap length (w .passed)))
 

@@ -7,10 +7,10 @@ use mathlib.Core.Bool.{true}
 use mathlib.Core.List.{List, [], _∷_, _++_, map}
 use lib.ListN.{length, take, drop, length-append}
 use Rattle.laws.specs.If.{ifEq, eq, ne, yes, by-eq}
-use Rattle.laws.specs.Lists.{every}
+use Rattle.laws.specs.Lists.{length-none, every}
 use Rattle.paper.specs.declared.Frame.{Frame}
 use Rattle.paper.specs.declared.Message.{Message}
-use Rattle.paper.specs.Sizes.{depths}
+use Rattle.paper.specs.Sizes.{depths, mostWaiting, leastSpace}
 use Rattle.paper.specs.Elements.{constructor, frameAt}
 use Rattle.paper.specs.Problems.{noProblem}
 use Rattle.paper.specs.Components.{Item, invokeTag, errorTag, noID}
@@ -33,10 +33,6 @@ use Rattle.demand_readback.specs.Listing.{invoke-tagged, error-tagged, r
 use Rattle.demand_readback.specs.Reading.{has-octets, end-has}
 use Rattle.demand_readback.specs.Places.{parameter-fits, parameter-there}
 use Rattle.demand_readback.specs.Order.{end-back, user-abort-back, cause-abort-back, begin-back, continue-back, uni-back}
-
-none-is : (l : List ℕ) → length l ≡ 0 → l ≡ []
-none-is [] h = refl
-none-is (x ∷ l) h = absurd (omega arith)
 
 -- octets that stand from p to e
 between-back : {s vs : List ℕ} {p e : ℕ} → Has s p vs → p + length vs ≡ e → e ≤ length s → between s p e ≡ vs
@@ -138,7 +134,7 @@ module _ (s : List ℕ) (at : ℕ) where
       let i : Item = itemOf (Result t id op par) in
       let code : op ≡ ifEq (i .part .parstop) 0 [] (codeAt s (resultFrame s i .to) (resultFrame s i .from)) =
       by-eq {A = ℕ} (length op) 0 0 0 refl
-      (λ z _. eq _ _ _ _ (sym (eq (length par) 0 0 x (result-empty op par (a .2) z) refl)) (none-is op z))
+      (λ z _. eq _ _ _ _ (sym (eq (length par) 0 0 x (result-empty op par (a .2) z) refl)) (sym (length-none op z)))
       (λ z _.
       let k : x ≡ toOf x (length par) = ne (length par) 0 0 x (element-some 14 par (both-told op par (a .2) z .1)) refl in
       ne _ _ _ _ (λ y. omega (arith, octets-some (Result t id op par))) (result-code t id op par a z has fits room)) in
@@ -169,7 +165,7 @@ abbrev holds : Message → List ℕ → List ℕ → List ℕ → List Written �
 holds m own peer user ws =
     Wire.Holds (record { tag = m .tag; origin = own; destination = peer; portion = user; spoken = spokenIn user; cause = m .cause; components = ws })
 
-items-in : {s own peer user : List ℕ} {m : Message} (ws : List Written) → AllAllowed ws → length (joined ws) ≤ 240 → length (joined ws) < length s
+items-in : {s own peer user : List ℕ} {m : Message} (ws : List Written) → AllAllowed ws → length (joined ws) ≤ mostWaiting → length (joined ws) < length s
     → Back s m own peer user (joined ws) → m .from ≡ fromOf (length s) (length (joined ws)) → itemsOf s m ≡ itemsFrom (m .from) ws
 unfolding itemsOf itemsFrom joined
 items-in {s} {m = m} [] allowed few long back from = sym (eq _ _ _ _ (from ∙ sym (eq 0 0 0 (length s - 0) refl refl)) refl)
@@ -179,7 +175,7 @@ items-in {s} {own} {peer} {user} {m} (w ∷ ws) allowed few long back from =
     let f : length s - n ≡ fromOf (length s) n = ne n 0 0 (length s - n) some refl in
     sym (ne _ _ _ _ (λ z. omega arith) (components-back s (m .to) (m .from) w ws allowed (back .components) (omega arith) (back .ends)))
 
-content-back : {s own peer user : List ℕ} {m : Message} (ws : List Written) → AllAllowed ws → length (joined ws) ≤ 240 → (length (joined ws) < length s) × (length s ≤ 272)
+content-back : {s own peer user : List ℕ} {m : Message} (ws : List Written) → AllAllowed ws → length (joined ws) ≤ mostWaiting → (length (joined ws) < length s) × (length s ≤ leastSpace)
     → (length s < 65536 → Back s m own peer user (joined ws)) → m .fault ≡ isSound → m .from ≡ fromOf (length s) (length (joined ws))
     → contentOf s ≡ holds m own peer user ws
 unfolding contentOf messageIn
@@ -195,13 +191,13 @@ content-back {s} {own} {peer} {user} {m} ws allowed few long read sound from =
     (eq _ _ _ _ sound (yes _ _ _ (ap (every isSoundItem) items ∙ items-sound (m .from) ws) is) ∙ ap (messageIn s) (sym (back .is))))
 
 -- SIZES: of an element whose contents, no less than cs, are at most 268 octets; of a portion and components of at most 240
-element-long : (tag : ℕ) (c cs : List ℕ) → length cs ≤ length c → length c ≤ 268 → (length cs < length (tlv tag c)) × (length (tlv tag c) ≤ 272)
+element-long : (tag : ℕ) (c cs : List ℕ) → length cs ≤ length c → length c ≤ 268 → (length cs < length (tlv tag c)) × (length (tlv tag c) ≤ leastSpace)
 element-long tag c cs least most =
     let n = element-length tag c in
     let h = length-small (length c) in
     (omega arith, omega arith)
 
-rest-long : (portion cs : List ℕ) → length portion + length cs ≤ 240
+rest-long : (portion cs : List ℕ) → length portion + length cs ≤ mostWaiting
     → (length cs ≤ length (portion ++ componentsOctets cs)) × (length (portion ++ componentsOctets cs) ≤ 244)
 rest-long portion cs most =
     let j = ap length (components-joined cs) in
@@ -212,14 +208,14 @@ rest-long portion cs most =
 
 -- after an ID
 id-long : (tag k : ℕ) (id rest cs : List ℕ) → length id ≤ 4 → length cs ≤ length rest → length rest ≤ 250
-    → (length cs < length (tlv tag (tlv k id ++ rest))) × (length (tlv tag (tlv k id ++ rest)) ≤ 272)
+    → (length cs < length (tlv tag (tlv k id ++ rest))) × (length (tlv tag (tlv k id ++ rest)) ≤ leastSpace)
 id-long tag k id rest cs few least most =
     let j = length-append (tlv k id) rest in
     let i = id-length k id (omega arith) in
     element-long tag (tlv k id ++ rest) cs (omega arith) (omega arith)
 
 -- AN ABORT has no components
-abort-content : {s peer user : List ℕ} {m : Message} → (0 < length s) × (length s ≤ 272) → (length s < 65536 → Back s m [] peer user [])
+abort-content : {s peer user : List ℕ} {m : Message} → (0 < length s) × (length s ≤ leastSpace) → (length s < 65536 → Back s m [] peer user [])
     → m .fault ≡ isSound → m .from ≡ 0 → contentOf s ≡ holds m [] peer user []
 unfolding joined
 abort-content {s} long read sound from = content-back [] tt (omega arith) long read sound (from ∙ eq 0 0 0 (length s - 0) refl refl)
@@ -235,22 +231,22 @@ unfolding spokenIn portionOf ifEq
 silent = refl
 
 module _ (own : List ℕ) (some : 1 ≤ length own) (few : length own ≤ 4) where
-  begin-long : (portion cs : List ℕ) → length portion + length cs ≤ 240 → (length cs < length (beginOctets own portion cs)) × (length (beginOctets own portion cs) ≤ 272)
+  begin-long : (portion cs : List ℕ) → length portion + length cs ≤ mostWaiting → (length cs < length (beginOctets own portion cs)) × (length (beginOctets own portion cs) ≤ leastSpace)
   unfolding beginOctets
   begin-long portion cs most = let r = rest-long portion cs most in id-long beginTag 0x48 own (portion ++ componentsOctets cs) cs few (omega arith) (omega arith)
 
-  pub begin-fits : (portion cs : List ℕ) → length portion + length cs ≤ 240 → length (beginOctets own portion cs) ≤ 272
+  pub begin-fits : (portion cs : List ℕ) → length portion + length cs ≤ mostWaiting → length (beginOctets own portion cs) ≤ leastSpace
   begin-fits portion cs most = begin-long portion cs most .1
 
-  pub begin-content : (portion : List ℕ) → isPortion portion ≡ true → (ws : List Written) → AllAllowed ws → length portion + length (joined ws) ≤ 240
+  pub begin-content : (portion : List ℕ) → isPortion portion ≡ true → (ws : List Written) → AllAllowed ws → length portion + length (joined ws) ≤ mostWaiting
       → contentOf (beginOctets own portion (joined ws))
       ≡ Wire.Holds (record { tag = beginTag; origin = own; destination = []; portion = portion; spoken = spokenIn portion; cause = noProblem; components = ws })
   begin-content portion formed ws allowed most =
       content-back ws allowed (omega arith) (begin-long portion (joined ws) most) (begin-back own some few portion formed (joined ws)) refl refl
 
   module _ (peer : List ℕ) (least : 1 ≤ length peer) (less : length peer ≤ 4) where
-    continue-long : (portion cs : List ℕ) → length portion + length cs ≤ 240
-        → (length cs < length (continueOctets own peer portion cs)) × (length (continueOctets own peer portion cs) ≤ 272)
+    continue-long : (portion cs : List ℕ) → length portion + length cs ≤ mostWaiting
+        → (length cs < length (continueOctets own peer portion cs)) × (length (continueOctets own peer portion cs) ≤ leastSpace)
     unfolding continueOctets
     continue-long portion cs most =
         let r = rest-long portion cs most in
@@ -258,10 +254,10 @@ module _ (own : List ℕ) (some : 1 ≤ length own) (few : length own ≤ 4) whe
         let i = id-length 0x49 peer (omega arith) in
         id-long continueTag 0x48 own (tlv 0x49 peer ++ (portion ++ componentsOctets cs)) cs few (omega arith) (omega arith)
 
-    pub continue-fits : (portion cs : List ℕ) → length portion + length cs ≤ 240 → length (continueOctets own peer portion cs) ≤ 272
+    pub continue-fits : (portion cs : List ℕ) → length portion + length cs ≤ mostWaiting → length (continueOctets own peer portion cs) ≤ leastSpace
     continue-fits portion cs most = continue-long portion cs most .1
 
-    pub continue-content : (portion : List ℕ) → isPortion portion ≡ true → (ws : List Written) → AllAllowed ws → length portion + length (joined ws) ≤ 240
+    pub continue-content : (portion : List ℕ) → isPortion portion ≡ true → (ws : List Written) → AllAllowed ws → length portion + length (joined ws) ≤ mostWaiting
         → contentOf (continueOctets own peer portion (joined ws))
         ≡ Wire.Holds (record { tag = continueTag; origin = own; destination = peer; portion = portion; spoken = spokenIn portion; cause = noProblem; components = ws })
     continue-content portion formed ws allowed most =
@@ -269,33 +265,33 @@ module _ (own : List ℕ) (some : 1 ≤ length own) (few : length own ≤ 4) whe
         (continue-back own some few peer least less portion formed (joined ws)) refl refl
 
 module _ (peer : List ℕ) (some : 1 ≤ length peer) (few : length peer ≤ 4) where
-  end-long : (portion cs : List ℕ) → length portion + length cs ≤ 240 → (length cs < length (endOctets peer portion cs)) × (length (endOctets peer portion cs) ≤ 272)
+  end-long : (portion cs : List ℕ) → length portion + length cs ≤ mostWaiting → (length cs < length (endOctets peer portion cs)) × (length (endOctets peer portion cs) ≤ leastSpace)
   unfolding endOctets
   end-long portion cs most = let r = rest-long portion cs most in id-long endTag 0x49 peer (portion ++ componentsOctets cs) cs few (omega arith) (omega arith)
 
-  pub end-fits : (portion cs : List ℕ) → length portion + length cs ≤ 240 → length (endOctets peer portion cs) ≤ 272
+  pub end-fits : (portion cs : List ℕ) → length portion + length cs ≤ mostWaiting → length (endOctets peer portion cs) ≤ leastSpace
   end-fits portion cs most = end-long portion cs most .1
 
-  pub end-content : (portion : List ℕ) → isPortion portion ≡ true → (ws : List Written) → AllAllowed ws → length portion + length (joined ws) ≤ 240
+  pub end-content : (portion : List ℕ) → isPortion portion ≡ true → (ws : List Written) → AllAllowed ws → length portion + length (joined ws) ≤ mostWaiting
       → contentOf (endOctets peer portion (joined ws))
       ≡ Wire.Holds (record { tag = endTag; origin = []; destination = peer; portion = portion; spoken = spokenIn portion; cause = noProblem; components = ws })
   end-content portion formed ws allowed most =
       content-back ws allowed (omega arith) (end-long portion (joined ws) most) (end-back peer some few portion formed (joined ws)) refl refl
 
-  abort-long : (rest : List ℕ) → length rest ≤ 240 → (0 < length (tlv abortTag (tlv 0x49 peer ++ rest))) × (length (tlv abortTag (tlv 0x49 peer ++ rest)) ≤ 272)
+  abort-long : (rest : List ℕ) → length rest ≤ mostWaiting → (0 < length (tlv abortTag (tlv 0x49 peer ++ rest))) × (length (tlv abortTag (tlv 0x49 peer ++ rest)) ≤ leastSpace)
   abort-long rest most = id-long abortTag 0x49 peer rest [] few (omega arith) (omega arith)
 
-  pub user-abort-fits : (portion : List ℕ) → length portion ≤ 240 → length (userAbortOctets peer portion) ≤ 272
+  pub user-abort-fits : (portion : List ℕ) → length portion ≤ mostWaiting → length (userAbortOctets peer portion) ≤ leastSpace
   unfolding userAbortOctets
   user-abort-fits portion most = abort-long portion most .1
 
-  pub user-abort-content : (portion : List ℕ) → isPortion portion ≡ true → length portion ≤ 240
+  pub user-abort-content : (portion : List ℕ) → isPortion portion ≡ true → length portion ≤ mostWaiting
       → contentOf (userAbortOctets peer portion)
       ≡ Wire.Holds (record { tag = abortTag; origin = []; destination = peer; portion = portion; spoken = spokenIn portion; cause = noProblem; components = [] })
   unfolding userAbortOctets
   user-abort-content portion formed most = abort-content (abort-long portion most) (user-abort-back peer some few portion formed) refl refl
 
-  pub cause-abort-fits : (cause : ℕ) → length (causeAbortOctets peer cause) ≤ 272
+  pub cause-abort-fits : (cause : ℕ) → length (causeAbortOctets peer cause) ≤ leastSpace
   unfolding causeAbortOctets
   cause-abort-fits cause = abort-long (0x4A ∷ 1 ∷ cause ∷ []) (omega arith) .1
 
@@ -307,15 +303,15 @@ module _ (peer : List ℕ) (some : 1 ≤ length peer) (few : length peer ≤ 4) 
       abort-content (abort-long (0x4A ∷ 1 ∷ cause ∷ []) (omega arith)) (λ _. cause-abort-back peer some few cause small) refl refl
       ∙ ap (λ (w : Spoken). Wire.Holds (record { tag = abortTag; origin = []; destination = peer; portion = []; spoken = w; cause = cause; components = [] })) silent
 
-uni-long : (portion cs : List ℕ) → length portion + length cs ≤ 240 → (length cs < length (uniOctets portion cs)) × (length (uniOctets portion cs) ≤ 272)
+uni-long : (portion cs : List ℕ) → length portion + length cs ≤ mostWaiting → (length cs < length (uniOctets portion cs)) × (length (uniOctets portion cs) ≤ leastSpace)
 unfolding uniOctets
 uni-long portion cs most = let r = rest-long portion cs most in element-long uniTag (portion ++ componentsOctets cs) cs (omega arith) (omega arith)
 
-pub uni-fits : (portion cs : List ℕ) → length portion + length cs ≤ 240 → length (uniOctets portion cs) ≤ 272
+pub uni-fits : (portion cs : List ℕ) → length portion + length cs ≤ mostWaiting → length (uniOctets portion cs) ≤ leastSpace
 uni-fits portion cs most = uni-long portion cs most .1
 
 pub uni-content : (portion : List ℕ) → isPortion portion ≡ true → (ws : List Written) → AllAllowed ws → (length (joined ws) ≡ 0 → ⊥)
-    → length portion + length (joined ws) ≤ 240 → contentOf (uniOctets portion (joined ws))
+    → length portion + length (joined ws) ≤ mostWaiting → contentOf (uniOctets portion (joined ws))
     ≡ Wire.Holds (record { tag = uniTag; origin = []; destination = []; portion = portion; spoken = spokenIn portion; cause = noProblem; components = ws })
 uni-content portion formed ws allowed some most =
     content-back ws allowed (omega arith) (uni-long portion (joined ws) most) (uni-back portion formed (joined ws) some) refl refl

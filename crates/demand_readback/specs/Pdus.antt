@@ -7,6 +7,7 @@ use mathlib.Core.Bool.{true}
 use mathlib.Core.Logic.{_⊎_, ⊎-elim}
 use mathlib.Core.List.{List, [], _∷_, _++_}
 use lib.ListN.{length, getD, take, drop, length-append, List·getD-append}
+use Rattle.laws.specs.Lists.{length-none}
 use Rattle.laws.specs.If.{ifEq, lt, ge, eq, ne, by-eq, was-eq, true-false}
 use Rattle.paper.specs.declared.Pdu.{Pdu}
 use Rattle.paper.specs.Elements.{constructor, frameAt, noFrame, isElement}
@@ -22,10 +23,6 @@ use Rattle.demand_readback.specs.Reading.{has-octets}
 use Rattle.demand_readback.specs.Upto.{Upto, upto-rest, upto-tag, upto-stands, around, tagged-back, only-other, only-back, holds-more, inner-stands}
 
 -- no octets
-pub empty : (l : List ℕ) → length l ≡ 0 → [] ≡ l
-empty [] z = refl
-empty (x ∷ l) z = absurd (omega arith)
-
 -- WHAT IS GIVEN: a name and information that are some
 pub name-told : (l : List ℕ) → isName l ≡ true → (length l ≡ 0 → ⊥) → (getD l 0 0 ≡ 6) × Code l
 unfolding isName
@@ -196,7 +193,7 @@ module _ {l : List ℕ} {e : ℕ} {w : Pdu} {p : Parts} (rest : List ℕ) where
   unfolding piece pieceOctets taking
   took-none u none other =
       let t : getD (p .information ++ rest) 0 0 ≡ tagAt l e (w .at) = upto-tag (p .information ++ rest) u in
-      let r : getD rest 0 0 ≡ getD (p .information ++ rest) 0 0 = ap (λ (o : List ℕ). getD (o ++ rest) 0 0) (empty (p .information) none) in
+      let r : getD rest 0 0 ≡ getD (p .information ++ rest) 0 0 = ap (λ (o : List ℕ). getD (o ++ rest) 0 0) (length-none (p .information) none) in
       took-as w (ne _ _ _ _ (λ z. other (r ∙ t ∙ z)) refl) (omega arith) (sym (eq _ _ _ _ none refl))
 
   took-some : Upto l e (w .at) (p .information ++ rest) → isInformation (p .information) ≡ true → (length (p .information) ≡ 0 → ⊥) → Took l e w Piece.Information p

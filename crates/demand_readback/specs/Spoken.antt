@@ -6,11 +6,12 @@ use mathlib.Core.Bool.{true}
 use mathlib.Core.Logic.{inl}
 use mathlib.Core.List.{List, [], _∷_, _++_}
 use lib.ListN.{length, getD}
+use Rattle.laws.specs.Lists.{length-none}
 use Rattle.laws.specs.If.{eq, ne, yes, by-eq, either-eq}
 use Rattle.paper.specs.declared.Frame.{Frame}
 use Rattle.paper.specs.declared.Pdu.{Pdu}
 use Rattle.paper.specs.declared.Portion.{Portion}
-use Rattle.paper.specs.Sizes.{depths}
+use Rattle.paper.specs.Sizes.{depths, mostWaiting}
 use Rattle.paper.specs.Elements.{noFrame, isElement}
 use Rattle.paper.specs.Dialogues.{isName, isBlock, isInformation, isPortion, isAbort, abortPortion}
 use Rattle.paper.specs.Ledger.{abortSpoken}
@@ -18,7 +19,7 @@ use Rattle.paper.specs.Writing.{tlv}
 use Rattle.paper.specs.Portions.{structured, unstructured, noValue, Parts, Piece, Form, plain, accepts, aborts, aarq, aare, abrt, audt, forms, pieceOctets, piecesOctets, portionOctets, portionBy, unread, allPieces, external, pduOf, inForm, readBy, portionOf, Spoken, partsIn, spokenIn, spokenBy}
 use Rattle.writing_octets.specs.Lengths.{element-length, id-of}
 use Rattle.demand_readback.specs.Standing.{begins}
-use Rattle.demand_readback.specs.Pdus.{empty, seen, informed, taking, AllFormed, AllTold, takingAll, pieces-parts, pieces-took}
+use Rattle.demand_readback.specs.Pdus.{seen, informed, taking, AllFormed, AllTold, takingAll, pieces-parts, pieces-took}
 use Rattle.demand_readback.specs.Shells.{core, Holding, pduAt, pdu, core-parts, form-other, form-tag, form-own, coreAt, inmost, external-back, octets-first, octets-formed}
 use Rattle.demand_readback.specs.Contents.{silent}
 use Rattle.demand_readback.specs.Upto.{Upto, around, one-inner}
@@ -114,7 +115,7 @@ last-piece p q none =
     by-eq {A = ℕ} (length (p .information)) 0 0 0 refl
     (λ z _. eq _ _ _ _ z
     (ap (λ (o : List ℕ). record { name = q .name; information = o; result = q .result; diagnostic = q .diagnostic; source = q .source })
-    (sym (empty (p .information) z) ∙ sym none)))
+    (sym (length-none (p .information) z) ∙ sym none)))
     (λ z _. ne _ _ _ _ z refl)
 
 pub ours-aarq : Ours aarq addressed
@@ -231,7 +232,7 @@ one-portion : (l : List ℕ) → getD l 0 0 ≡ 0x6B → isElement depths l ≡ 
 unfolding isPortion
 one-portion l first formed = sym (either-eq _ _ _ _ refl (eq _ _ _ _ first (sym formed)))
 
-module _ {f : Form} {shown : Parts → Parts} (o : Ours f shown) (name info : List ℕ) (n : isName name ≡ true) (i : isInformation info ≡ true) (few : length (portionBy f name info) ≤ 240) where
+module _ {f : Form} {shown : Parts → Parts} (o : Ours f shown) (name info : List ℕ) (n : isName name ≡ true) (i : isInformation info ≡ true) (few : length (portionBy f name info) ≤ mostWaiting) where
   pub portion-formed : isPortion (portionBy f name info) ≡ true
   portion-formed =
       by-eq {A = ℕ} (length name + length info) 0 0 0 refl
@@ -273,10 +274,10 @@ module _ (name info : List ℕ) (n : isName name ≡ true) (i : isInformation in
   asking-told : (length name + length info ≡ 0 → ⊥) → AllTold (Piece.Version ∷ Piece.Name ∷ Piece.Information ∷ []) (plain name info)
   asking-told some = (not-version (Piece.Information ∷ []) (plain name info) (is-named some), (is-named some, ((λ _. not-after (plain name info)), tt)))
 
-  pub aarq-spoken : length (portionBy aarq name info) ≤ 240 → spokenIn (portionBy aarq name info) ≡ spokenBy aarq name info
+  pub aarq-spoken : length (portionBy aarq name info) ≤ mostWaiting → spokenIn (portionBy aarq name info) ≡ spokenBy aarq name info
   aarq-spoken few = given-spoken ours-aarq name info n i few refl asking-told
 
-  pub aare-spoken : length (portionBy aare name info) ≤ 240 → spokenIn (portionBy aare name info) ≡ spokenBy aare name info
+  pub aare-spoken : length (portionBy aare name info) ≤ mostWaiting → spokenIn (portionBy aare name info) ≡ spokenBy aare name info
   aare-spoken few =
       given-spoken ours-aare name info n i few refl
       (λ some. (
@@ -284,7 +285,7 @@ module _ (name info : List ℕ) (n : isName name ≡ true) (i : isInformation in
         (is-named some, (omega arith, (omega arith, ((λ _. not-after (accepts name info)), tt)))),
       ))
 
-  pub audt-spoken : length (portionBy audt name info) ≤ 240 → spokenIn (portionBy audt name info) ≡ spokenBy audt name info
+  pub audt-spoken : length (portionBy audt name info) ≤ mostWaiting → spokenIn (portionBy audt name info) ≡ spokenBy audt name info
   audt-spoken few = given-spoken ours-audt name info n i few refl asking-told
 
 -- ABORT: user information alone
@@ -296,12 +297,12 @@ block-information : (info : List ℕ) → isBlock info ≡ true → isInformatio
 unfolding isInformation
 block-information info h = sym (either-eq _ _ _ _ refl (sym h))
 
-pub abrt-spoken : (info : List ℕ) → isBlock info ≡ true → length (portionBy abrt [] info) ≤ 240 → spokenIn (portionBy abrt [] info) ≡ spokenBy abrt [] info
+pub abrt-spoken : (info : List ℕ) → isBlock info ≡ true → length (portionBy abrt [] info) ≤ mostWaiting → spokenIn (portionBy abrt [] info) ≡ spokenBy abrt [] info
 abrt-spoken info i few =
     given-spoken ours-abrt [] info no-name (block-information info i) few refl (λ some. (omega arith, ((λ _. not-after (aborts [] info)), tt)))
 
 -- or a whole portion, which says what it says
-module _ (given : List ℕ) (h : isAbort given ≡ true) (few : length (abortPortion given) ≤ 240) where
+module _ (given : List ℕ) (h : isAbort given ≡ true) (few : length (abortPortion given) ≤ mostWaiting) where
   abort-block : getD given 0 0 ≡ 0xBE → (portionBy abrt [] given ≡ abortPortion given) × ((spokenBy abrt [] given ≡ abortSpoken given) × (isBlock given ≡ true))
   unfolding abortPortion abortSpoken isAbort
   abort-block z = (eq _ _ _ _ z refl, (eq _ _ _ _ z refl, eq _ _ _ _ z refl ∙ h))

@@ -14,7 +14,7 @@ use lib.ListN.{length, getD, length-take, length-drop}
 use Rattle.laws.specs.If.{ifEq, ifB, eq, ne, yes, no, by-eq}
 use Rattle.paper.specs.declared.Invocation.{Invocation}
 use Rattle.paper.specs.declared.Row.{Row}
-use Rattle.paper.specs.Sizes.{placesInAll, services, placeOf, turnOf, idOctets}
+use Rattle.paper.specs.Sizes.{placesInAll, services, placeOf, turnOf, idOctets, leastSpace}
 use Rattle.paper.specs.Shares.{Resource, shared, gives, others, free}
 use Rattle.paper.specs.Messages.{messageOf, isSound, uniTag, beginTag}
 use Rattle.paper.specs.Kinds.{rowBegin}
@@ -140,7 +140,7 @@ module _ (t g l : List ℕ) (fresh : freshOutcome t g l .answer ≡ 0) (ms : Lis
   id-reads-back d e q = id-back d (let h = entry-there d e q .small in omega arith)
 
   -- a sound Continue, End or Abort, of 1 to 512 octets, whose destination ID is the octets of an ID of ours; with spaces of the right sizes
-  module _ (s : ℕ) (h : s < services) (msg rows space : List ℕ) (octets : Octets msg) (wide : 4096 ≤ length rows) (long : 272 ≤ length space) (some-octets : 0 < length msg) (few : length msg ≤ 512)
+  module _ (s : ℕ) (h : s < services) (msg rows space : List ℕ) (octets : Octets msg) (wide : 4096 ≤ length rows) (long : leastSpace ≤ length space) (some-octets : 0 < length msg) (few : length msg ≤ 512)
       (sound : messageOf msg .fault ≡ isSound) (no-uni : messageOf msg .tag ≡ uniTag → ⊥) (no-begin : messageOf msg .tag ≡ beginTag → ⊥)
       (d : ℕ) (small : d < 4294967296) (names : octetsAt msg (messageOf msg .destination) ≡ idOctets d) where
     abbrev comes : Made
@@ -309,7 +309,7 @@ module _ (t g l : List ℕ) (fresh : freshOutcome t g l .answer ≡ 0) (ms : Lis
   refused-only s h = counting.refused-only fresh-places there _ _ (λ s. refl) moves s 0 7 (answered s h) (λ e. omega arith)
 
   -- THE SAME FOR A PARTNER'S BEGIN: any sound one, of 1 to 512 octets, with spaces of the right sizes
-  module _ (s : ℕ) (h : s < services) (msg rows space : List ℕ) (octets : Octets msg) (wide : 4096 ≤ length rows) (long : 272 ≤ length space) (some-octets : 0 < length msg) (few : length msg ≤ 512)
+  module _ (s : ℕ) (h : s < services) (msg rows space : List ℕ) (octets : Octets msg) (wide : 4096 ≤ length rows) (long : leastSpace ≤ length space) (some-octets : 0 < length msg) (few : length msg ≤ 512)
       (fine : messageOf msg .fault ≡ isSound) (begin : messageOf msg .tag ≡ beginTag) where
     abbrev begins : Made
     begins = record { call = Receive s msg; rows = rows; space = space }

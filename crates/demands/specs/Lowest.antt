@@ -10,7 +10,7 @@ use borrow.Author.Tests.{ltb-true, ltb-false, leb-true, le-leb, lt-leb, eqb-true
 use Rattle.laws.specs.If.{ifLt, ifEq, ifB, true-false, eq, ne, by-eq, all}
 use Rattle.laws.specs.Lists.{every}
 use Rattle.laws.specs.Sums.{sum}
-use Rattle.paper.specs.Sizes.{placesInAll, services, placeOf}
+use Rattle.paper.specs.Sizes.{placesInAll, services, placeOf, mostWaiting}
 use Rattle.paper.specs.Components.{waitingItems}
 use Rattle.paper.specs.Writing.{invokeOctets, resultOctets, errorOctets, rejectOctets}
 use Rattle.paper.specs.Portions.{Form, aarq, aare, audt, portionBy}
@@ -252,7 +252,7 @@ refusal-first x (Continue name info) = (peer-first x name info, refl)
 refusal-first x (End name info) = (peer-first x name info, refl)
 refusal-first x Prearranged = (refl, refl)
 refusal-first x (Abort given) = (
-  not-b itself _ _ _ (is-lt itself _ _ _ _ refl refl) refl ∙ ap (λ (b : Bool). ifB (not b) 11 (ifB (ltb 240 (length (abortPortion given))) 12 0)) (abort-is given),
+  not-b itself _ _ _ (is-lt itself _ _ _ _ refl refl) refl ∙ ap (λ (b : Bool). ifB (not b) 11 (ifB (ltb mostWaiting (length (abortPortion given))) 12 0)) (abort-is given),
   refl,
 )
 refusal-first x (Unidirectional name info) = (uni-first x name info, refl)

@@ -23,7 +23,7 @@ space-of : (b : Bool) → cond b leastSpace 0 ≤ leastSpace
 space-of true = omega arith
 space-of false = omega arith
 
-pub space-small : (c : Call) → spacesFor c .space ≤ 272
+pub space-small : (c : Call) → spacesFor c .space ≤ leastSpace
 space-small (Open service) = omega arith
 space-small (OnDialogue service dialogue r) = space-of (shapeOf r .message)
 space-small (Receive service s) = omega arith
@@ -48,7 +48,7 @@ spokenOf Wire.Garbled = Spoken.Silent
 spokenOf (Wire.Holds c) = c .spoken
 
 -- and the reader tells it, where the message is no longer than the space
-pub told-of : (s : List ℕ) (c : Content) → length s ≤ 272 → contentOf s ≡ Wire.Holds c
+pub told-of : (s : List ℕ) (c : Content) → length s ≤ leastSpace → contentOf s ≡ Wire.Holds c
     → partsIn s (portionAt s (messageOf s .portion .start) (messageOf s .portion .length)) ≡ c .spoken
 told-of s c h e =
     let r : Run = messageOf s .portion in

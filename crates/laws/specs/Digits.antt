@@ -2,12 +2,11 @@
 use Prim.Native.Nat.{ℕ, zero, suc, _+_, _*_, _-_, _/_, _%_, _^_, _≤_, _<_}
 use mathlib.Core.Path.{_≡_, refl, sym, ap, subst, _∙_}
 use mathlib.Core.List.{List, [], _∷_, _++_}
-use native.Mathlib.Nat.{pow-suc, one-mul, mod-eq-of-lt, add-assoc, suc-add, zero-add, mul-assoc, mul-comm, div-div-eq-div-mul}
+use native.Mathlib.Nat.{pow-suc, add-assoc, suc-add, zero-add, mul-assoc, mul-comm, div-div-eq-div-mul}
 use native.Mathlib.Omega.{arith}
 use lib.ListN.{length, getD, set, take, drop, length-drop, length-append, List·getD-append, take-append-drop}
 use lib.Seq.{set-append-left, getD-append-add, length-take-le, take-at, drop-at, getD-drop}
 use lib.Arith.{lt-one}
-use lib.Pow.{pow-lt}
 use lib.Count.{ones, ones-step, trailingZeros, under}
 
 -- the k lowest binary digits of n, lowest first
@@ -77,20 +76,6 @@ unfolding lowest
 lowest-miss [] b h = omega arith
 lowest-miss (zero ∷ a) b h = ap suc (lowest-miss a b (omega arith)) ∙ sym (suc-add (length a) (lowest b))
 lowest-miss (suc d ∷ a) b h = absurd (omega arith)
-
--- it is the least index whose digit is set
-pub lowest-below : (l : List ℕ) (p : ℕ) → p < lowest l → getD l p 0 ≡ 0
-unfolding lowest
-lowest-below [] p h = absurd (omega arith)
-lowest-below (zero ∷ l) zero h = refl
-lowest-below (zero ∷ l) (suc p) h = lowest-below l p (omega arith)
-lowest-below (suc d ∷ l) p h = absurd (omega arith)
-
-pub lowest-at : (l : List ℕ) → lowest l < length l → 0 < getD l (lowest l) 0
-unfolding lowest
-lowest-at [] h = absurd (omega arith)
-lowest-at (zero ∷ l) h = lowest-at l (omega arith)
-lowest-at (suc d ∷ l) h = omega arith
 
 -- a number that is not 0 has a digit that is set
 lowest-some : (k n : ℕ) → n < 2 ^ k → 0 < n → lowest (digits k n) < k
@@ -162,10 +147,6 @@ digits-sub (suc k) n (suc q) l h =
     let a : (n - 2 ^ suc q) % 2 ≡ n % 2 = omega (arith, pow-suc 2 q) in
     let b : (n - 2 ^ suc q) / 2 ≡ n / 2 - 2 ^ q = omega (arith, pow-suc 2 q) in
     cc (digits-sub k (n / 2) q (omega arith) h)
-
--- what `1 << q` is
-pub shl-one : (q : ℕ) → q < 64 → 1 * 2 ^ q % 18446744073709551616 ≡ 2 ^ q
-shl-one q h = ap (λ (x : ℕ). x % 18446744073709551616) (one-mul (2 ^ q)) ∙ mod-eq-of-lt (pow-lt h)
 
 -- ---- octets and words
 pub digits-cat : (j k r a : ℕ) → r < 2 ^ j → digits (j + k) (r + a * 2 ^ j) ≡ digits j r ++ digits k a

@@ -34,6 +34,10 @@ every f [] = true
 every f (x ∷ l) = ifB (f x) (every f l) false
 
 module _ {A : Type 0} where
+  pub length-none : (l : List A) → length l ≡ 0 → [] ≡ l
+  length-none [] h = refl
+  length-none (x ∷ l) h = absurd (omega (arith, h))
+
   -- f at i, i + 1, .. : n of them
   abbrev pub tab : ℕ → ℕ → (ℕ → A) → List A
   tab zero i f = []
@@ -145,9 +149,6 @@ module _ {A : Type 0} (f : A → Bool) (d : A) where
 
 -- A LIST CHANGED element by element, in its place: the first i are done
 module _ {A : Type 0} (f : A → A) (d : A) where
-  pub mapped-none : (l : List A) → l ≡ take 0 (map f l) ++ drop 0 l
-  mapped-none l = refl
-
   pub mapped-more : (l m : List A) (i : ℕ) → m ≡ take i (map f l) ++ drop i l → i < length l
       → set m i (f (getD l i d)) ≡ take (suc i) (map f l) ++ drop (suc i) l
   mapped-more l m i e h =

@@ -1,15 +1,12 @@
 -- A part of a list, and a list with a part replaced: over any offset and size. Assumes nothing.
---     part-left, part-right    a part of x ++ y that lies in x, or in y
---     over-same                what was put is what is there
---     over-before, over-after  a part before or after it is as it was
---     over-in                  a part that holds it changes as the whole does
---     places-apart             two places of one size do not meet
-use Prim.Native.Nat.{ℕ, zero, suc, _+_, _*_, _-_, _≤_, _<_}
-use mathlib.Core.Path.{_≡_, refl, sym, ap, subst, _∙_}
-use mathlib.Core.Logic.{_⊎_, inl, inr, ⊎-elim}
+--     part-left     a part of x ++ y that lies in x
+--     over-same     what was put is what is there
+--     over-before   a part before it is as it was
+--     over-in       a part that holds it changes as the whole does
+use Prim.Native.Nat.{ℕ, _+_, _-_, _≤_}
+use mathlib.Core.Path.{_≡_, sym, ap, _∙_}
 use borrow.Rule.Slice.PartMut.{putMid}
 use mathlib.Core.List.{List, _++_, append-assoc}
-use native.Mathlib.Nat.{suc-mul, mul-le-mul-right}
 use native.Mathlib.Omega.{arith}
 use lib.ListN.{length, take, drop, length-append, length-take, length-drop, take-append-drop}
 use lib.Seq.{length-take-le, take-append-le, drop-append-le, take-append-seam, take-append-add, drop-append-add, drop-at, drop-drop}
@@ -35,10 +32,6 @@ unfolding part
 part-left x y b n h =
     ap (take n) (drop-append-le b x y (omega arith)) ∙ take-append-le n (drop b x) y (simp length-drop (omega arith))
 
-pub part-right : (x y : List ℕ) (k n : ℕ) → part (length x + k) n (x ++ y) ≡ part k n y
-unfolding part
-part-right x y k n = ap (take n) (drop-append-add x y k)
-
 pub over-same : (t : List ℕ) (a : ℕ) (v : List ℕ) → a ≤ length t → part a (length v) (over t a v) ≡ v
 unfolding part over
 over-same t a v h =
@@ -49,20 +42,6 @@ unfolding over
 over-before t a v b n h l =
     let e : b + n ≤ length (take a t) = simp length-take (omega arith) in
     part-left (take a t) (v ++ drop (a + length v) t) b n e ∙ sym (part-left (take a t) (drop a t) b n e) ∙ ap (part b n) (take-append-drop a t)
-
-pub over-after : (t : List ℕ) (a : ℕ) (v : List ℕ) (b n : ℕ) → a + length v ≤ length t → a + length v ≤ b → part b n (over t a v) ≡ part b n t
-unfolding over part
-over-after t a v b n h l =
-    let m : ℕ = a + length v in
-    let x : List ℕ = take a t ++ v in
-    let k : ℕ = b - m in
-    let e : length x ≡ m = simp (length-append, length-take) (omega arith) in
-    let f : b ≡ length x + k = omega (arith, e) in
-    let g : m + k ≡ b = omega arith in
-    ap (part b n) (sym (append-assoc (take a t) v (drop m t)))
-    ∙ ap (λ (i : ℕ). part i n (x ++ drop m t)) f
-    ∙ part-right x (drop m t) k n
-    ∙ ap (take n) (drop-drop k m t ∙ ap (λ (i : ℕ). drop i t) g)
 
 pub shift : (x l : List ℕ) (k : ℕ) (v : List ℕ) → over (x ++ l) (length x + k) v ≡ x ++ over l k v
 unfolding over
@@ -99,43 +78,7 @@ over-in t a n k v h l =
     ∙ ap (λ (r : List ℕ). x ++ r) (stay y z k v fits)
     ∙ ap (λ (r : List ℕ). x ++ (w ++ r)) (drop-drop n a t ∙ ap (λ (i : ℕ). drop (a + i) t) (sym ew))
 
-pub places-apart : (size p q : ℕ) → p < q → p * size + size ≤ q * size
-places-apart size p q h = subst (λ (n : ℕ). n ≤ q * size) (suc-mul p size) (mul-le-mul-right size h)
-
-apart : (m k : ℕ) → (m ≡ k → ⊥) → (k < m) ⊎ (m < k)
-apart zero zero n = absurd (n refl)
-apart zero (suc k) n = inr (omega arith)
-apart (suc m) zero n = inl (omega arith)
-apart (suc m) (suc k) n = ⊎-elim (λ g. inl (omega arith)) (λ g. inr (omega arith)) (apart m k (λ e. n (ap suc e)))
-
--- place q of a table whose place p was replaced
-pub other-place : (base size p q : ℕ) (t v : List ℕ) → base + p * size + size ≤ length t → length v ≤ size → (p ≡ q → ⊥)
-    → part (base + q * size) size (over t (base + p * size) v) ≡ part (base + q * size) size t
-other-place base size p q t v h l n =
-    ⊎-elim
-    (λ g. over-before t (base + p * size) v (base + q * size) size (omega arith) (omega (arith, places-apart size q p g)))
-    (λ g. over-after t (base + p * size) v (base + q * size) size (omega arith) (omega (arith, places-apart size p q g)))
-    (apart p q n)
-
--- place p of a table whose place p was replaced from its start on
-pub same-place : (a n : ℕ) (t v : List ℕ) → a + n ≤ length t → length v ≤ n → part a n (over t a v) ≡ over (part a n t) 0 v
-same-place a n t v h l =
-    let w : List ℕ = over (part a n t) 0 v in
-    let ey : length (part a n t) ≡ n = part-length a n t h in
-    let ew : length w ≡ n = over-length (part a n t) 0 v (omega (arith, ey)) ∙ ey in
-    let z : over t a v ≡ over t a w = ap (λ (i : ℕ). over t i v) (omega arith) ∙ over-in t a n 0 v h (omega arith) in
-    ap (part a n) z ∙ ap (λ (i : ℕ). part a i (over t a w)) (sym ew) ∙ over-same t a w (omega arith)
-
 -- what a part that was lent leaves, as the checker has it
 pub put-over : (a k : ℕ) (t v : List ℕ) → length v ≡ k → putMid a k t v ≡ over t a v
 unfolding over
 put-over a k t v e = ap (λ (r : List ℕ). take a t ++ (v ++ r)) (drop-drop k a t ∙ ap (λ (i : ℕ). drop (a + i) t) (sym e))
-
--- a callee that was lent &mut t[a..e] put v at k of its part: so v stands at a + k of the whole
-pub lent-over : (t : List ℕ) (a e k : ℕ) (v last : List ℕ) → a ≤ e → e ≤ length t → k + length v ≤ e - a
-    → last ≡ over (part a (e - a) t) k v → putMid a (e - a) t last ≡ over t (a + k) v
-lent-over t a e k v last h g l q =
-    let ey : length (part a (e - a) t) ≡ e - a = part-length a (e - a) t (omega arith) in
-    ap (putMid a (e - a) t) q
-    ∙ put-over a (e - a) t (over (part a (e - a) t) k v) (over-length (part a (e - a) t) k v (omega (arith, ey)) ∙ ey)
-    ∙ sym (over-in t a (e - a) k v (omega arith) l)

@@ -46,14 +46,6 @@ wrote-more {l} {m} {n} {at} {p} {j} {q} {xs} {ys} a e b = record {
   long = b .long ∙ a .long;
 }
 
--- a store at a place, and past it
-pub wrote-one : (l : List ℕ) (at v q : ℕ) → q ≡ at + 1 → Wrote l at (v ∷ []) q (set l at v)
-wrote-one l at v q e = record { past = e; holds = refl; long = length-set l at v }
-
--- a store after a run
-pub wrote-put : {l m : List ℕ} {at p : ℕ} {xs : List ℕ} → Wrote l at xs p m → (j v q : ℕ) → j ≡ p → q ≡ p + 1 → Wrote l at (xs ++ v ∷ []) q (set m j v)
-wrote-put {l} {m} {at} {p} {xs} a j v q e f = wrote-more a e (wrote-one m j v q (f ∙ ap (λ (k : ℕ). k + 1) (sym e)))
-
 -- the same octets by another name
 pub wrote-as : {l m : List ℕ} {at p : ℕ} {xs ys : List ℕ} → Wrote l at xs p m → xs ≡ ys → Wrote l at ys p m
 wrote-as {l} {m} {at} {p} a e = subst (λ (k : List ℕ). Wrote l at k p m) e a

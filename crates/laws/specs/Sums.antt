@@ -70,15 +70,3 @@ module _ {A : Type 0} where
   sumBy-at f [] i d h = absurd (not-suc-le-zero h)
   sumBy-at f (y ∷ ys) zero d h = omega arith
   sumBy-at f (y ∷ ys) (suc i) d h = omega (arith, sumBy-at f ys i d (le-of-suc-le-suc h))
-
-  pub sumBy-plus : (f h : A → ℕ) (xs : List A) → sumBy (λ x. f x + h x) xs ≡ sumBy f xs + sumBy h xs
-  sumBy-plus f h [] = refl
-  sumBy-plus f h (x ∷ xs) = omega (arith, sumBy-plus f h xs)
-
-  pub sumBy-ext : (f h : A → ℕ) → ((x : A) → f x ≡ h x) → (xs : List A) → sumBy f xs ≡ sumBy h xs
-  sumBy-ext f h e [] = refl
-  sumBy-ext f h e (x ∷ xs) = omega (arith, e x, sumBy-ext f h e xs)
-
-  pub sum-swap : (f : ℕ → A → ℕ) (n : ℕ) (xs : List A) → sum (λ k. sumBy (f k) xs) n ≡ sumBy (λ x. sum (λ k. f k x) n) xs
-  sum-swap f n [] = sum-zero n
-  sum-swap f n (x ∷ xs) = omega (arith, sum-plus (λ k. f k x) (λ k. sumBy (f k) xs) n, sum-swap f n xs)

@@ -9,6 +9,7 @@ use borrow.Author.Tests.{eqb-true, eqb-false, leb-true, ltb-true, ltb-false, eq-
 use lib.ListN.{length, getD, drop}
 use Rattle.laws.specs.If.{ifLt, ifEq, ifB, lt, ge, eq, ne, yes, no, was-lt, was-ge, was-eq, was-yes, by-eq, true-false}
 use Rattle.laws.specs.Lists.{zeros, every}
+use Rattle.paper.specs.Sizes.{mostWaiting}
 use Rattle.paper.specs.declared.Invocation.{Invocation}
 use Rattle.paper.specs.declared.Reject.{Reject}
 use Rattle.paper.specs.declared.Control.{Control}
@@ -309,7 +310,7 @@ dialogue-is x t p v r n e =
         eights = r;
         rejects = rejects-are (c .count) (c .rejects) (rejects .0);
       };
-      room = leb-true (length (x .waiting)) 240 (room .0);
+      room = leb-true (length (x .waiting)) mostWaiting (room .0);
       whole = whole .0;
       free = λ z. absurd (n z);
     }
@@ -325,4 +326,4 @@ dialogue-kept x g =
     (yes _ _ _ (le-leb (c .count) 8 (f .count))
     (yes _ _ _ (invocations-kept (c .invocations) (f .invocations))
     (yes _ _ _ (rejects-kept (c .count) (c .rejects) (f .rejects))
-    (yes _ _ _ (le-leb (length (x .waiting)) 240 (g .room)) (yes _ _ _ (g .whole) refl))))))))
+    (yes _ _ _ (le-leb (length (x .waiting)) mostWaiting (g .room)) (yes _ _ _ (g .whole) refl))))))))

@@ -8,12 +8,12 @@ use Rattle.laws.specs.If.{ifB, yes, no, was-yes, true-false, all, all-at, all-o
 use Rattle.laws.specs.Digits.{octetDigits}
 use Rattle.paper.specs.Sizes.{placesInAll}
 use Rattle.paper.specs.Calls.{Table, placeAt}
-use Rattle.paper.specs.Layout.{placeOctets, tableSize, mapSize, flag, encode, slot, view, mapBit}
+use Rattle.paper.specs.Layout.{placeOctets, tableSize, mapSize, flag, encode, slot, view}
 use Rattle.paper.specs.Rules.{placeKept, tableShares, alike, rules}
 use Rattle.table_laws.specs.Fine.{Octets, Fine}
 use Rattle.table_laws.specs.Zeros.{alike-is, is-alike}
 use Rattle.table_laws.specs.Slots.{fine-place}
-use Rattle.table_laws.specs.Whole.{slotAtKept, encode-length, encode-slot, encode-bits, encode-bit, encode-kept, view-encode, view-length, view-shares, view-fine, view-each, encode-view}
+use Rattle.table_laws.specs.Whole.{slotAtKept, encode-length, encode-slot, encode-bits, encode-kept, view-encode, view-length, view-shares, view-fine, view-each, encode-view}
 
 -- ---- A FINE TABLE'S OCTETS KEEP THE RULES
 pub encode-rules : (T : Table) → Fine T → rules (encode T) ≡ true
@@ -81,12 +81,5 @@ module _ (t : List ℕ) (r : Ready t) where
   pub ready-bits : octetDigits (take mapSize t) ≡ map flag (view t .places)
   ready-bits = ap (λ (x : List ℕ). octetDigits (take mapSize x)) (sym (r .same)) ∙ encode-bits (view t) (r .fine)
 
-  pub ready-bit : (p : ℕ) → p < placesInAll → mapBit t p ≡ flag (placeAt (view t) p)
-  ready-bit p h = ap (λ (x : List ℕ). mapBit x p) (sym (r .same)) ∙ encode-bit (view t) (r .fine) p h
-
   pub ready-slot : (p : ℕ) → p < placesInAll → slot t p ≡ placeOctets (placeAt (view t) p)
   ready-slot p h = ap (λ (x : List ℕ). slot x p) (sym (r .same)) ∙ encode-slot (view t) (r .fine) p h
-
-  -- the view has no other octets
-  pub view-back : view (encode (view t)) ≡ view t
-  view-back = view-encode (view t) (r .fine)

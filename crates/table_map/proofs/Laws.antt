@@ -1,8 +1,7 @@
 -- The map as two words and as sixteen octets. Assumes nothing.
 use Prim.Native.Nat.{ℕ, zero, suc, _+_, _*_, _-_, _/_, _%_, _^_, _≤_, _<_}
-use mathlib.Core.Path.{_≡_, refl, sym, ap, subst, _∙_}
+use mathlib.Core.Path.{_≡_, refl, sym, ap, _∙_}
 use mathlib.Core.List.{List, [], _∷_, _++_, append-assoc, append-nil}
-use native.Mathlib.Nat.{pow-suc}
 use native.Mathlib.Omega.{arith}
 use lib.ListN.{length, getD, take}
 use lib.Seq.{length-take-le, getD-take}
@@ -20,13 +19,6 @@ power-at (suc (suc (suc (suc (suc zero))))) h = refl
 power-at (suc (suc (suc (suc (suc (suc zero)))))) h = refl
 power-at (suc (suc (suc (suc (suc (suc (suc zero))))))) h = refl
 power-at (suc (suc (suc (suc (suc (suc (suc (suc q)))))))) h = absurd (omega arith)
-
-pub power-some : (q : ℕ) → q < 8 → 0 < getD (1 ∷ 2 ∷ 4 ∷ 8 ∷ 16 ∷ 32 ∷ 64 ∷ 128 ∷ []) q 0
-power-some q h = subst (λ (n : ℕ). 0 < n) (sym (power-at q h)) (pow-pos q)
-  where
-    pow-pos : (q : ℕ) → 0 < 2 ^ q
-    pow-pos zero = omega arith
-    pow-pos (suc q) = omega (arith, pow-suc 2 q, pow-pos q)
 
 -- bit p is a digit of octet p / 8
 digit-bit : (t : List ℕ) (p : ℕ) → p < 128 → 16 ≤ length t → getD (digits 8 (getD t (p / 8) 0)) (p % 8) 0 ≡ mapBit t p

@@ -5,7 +5,8 @@ ghost use mathlib.Core.List.{_++_};
 ghost use Prim.Native.Nat.{_+_, _*_, _-_, _≤_, _<_};
 ghost use lib.ListN.{length, take};
 ghost use Rattle.laws.specs.Digits.{digits, lowest, count, octetDigits, wordAt};
-ghost use Rattle.paper.specs.Layout.{mapBit};
+ghost use Rattle.paper.specs.Sizes.{placesInAll};
+ghost use Rattle.paper.specs.Layout.{mapSize, mapBit};
 ghost use Rattle.table_map.specs.Map.{withBit, withoutBit};
 
 const POWERS: [u8; 8] = [1, 2, 4, 8, 16, 32, 64, 128];
@@ -41,7 +42,7 @@ pub fn word(t: &[u8], a: usize) -> u64
 }
 
 fn lowest_of(low: u64, high: u64) -> u32
-    ensures { λ r. ⌜ (r ≡ lowest (digits 64 low ++ digits 64 high)) × (r ≤ 128) ⌝ }
+    ensures { λ r. ⌜ (r ≡ lowest (digits 64 low ++ digits 64 high)) × (r ≤ placesInAll) ⌝ }
 {
     if low != 0 {
         return u64::trailing_zeros(low);
@@ -51,29 +52,29 @@ fn lowest_of(low: u64, high: u64) -> u32
 
 // The lowest free place, 128 where there is none.
 pub fn lowest_free(t: &[u8]) -> usize
-    requires { ⌜ 16 ≤ length (now t) ⌝ }
-    ensures { λ r. ⌜ (r ≡ lowest (octetDigits (take 16 (now (t .entry))))) × (r ≤ 128) ⌝ }
+    requires { ⌜ mapSize ≤ length (now t) ⌝ }
+    ensures { λ r. ⌜ (r ≡ lowest (octetDigits (take mapSize (now (t .entry))))) × (r ≤ placesInAll) ⌝ }
 {
     lowest_of(word(t, 0), word(t, 8)) as usize
 }
 
 fn count_of(low: u64, high: u64) -> u32
-    ensures { λ r. ⌜ (r ≡ count (digits 64 low ++ digits 64 high)) × (r ≤ 128) ⌝ }
+    ensures { λ r. ⌜ (r ≡ count (digits 64 low ++ digits 64 high)) × (r ≤ placesInAll) ⌝ }
 {
     u64::count_ones(low) + u64::count_ones(high)
 }
 
 // How many places are free.
 pub fn free_count(t: &[u8]) -> u32
-    requires { ⌜ 16 ≤ length (now t) ⌝ }
-    ensures { λ r. ⌜ (r ≡ count (octetDigits (take 16 (now (t .entry))))) × (r ≤ 128) ⌝ }
+    requires { ⌜ mapSize ≤ length (now t) ⌝ }
+    ensures { λ r. ⌜ (r ≡ count (octetDigits (take mapSize (now (t .entry))))) × (r ≤ placesInAll) ⌝ }
 {
     count_of(word(t, 0), word(t, 8))
 }
 
 // The bit of place p.
 pub fn bit_at(t: &[u8], p: usize) -> u8
-    requires { ⌜ (p < 128) × (16 ≤ length (now t)) ⌝ }
+    requires { ⌜ (p < placesInAll) × (mapSize ≤ length (now t)) ⌝ }
     ensures { λ r. ⌜ (r ≡ mapBit (now (t .entry)) p) × (r < 2) ⌝ }
 {
     let i = p / 8;
@@ -83,7 +84,7 @@ pub fn bit_at(t: &[u8], p: usize) -> u8
 
 // The bit of place p, which was clear, is set.
 pub fn set_bit(t: &mut [u8], p: usize)
-    requires { ⌜ (p < 128) × (16 ≤ length (now t)) × (mapBit (now t) p ≡ 0) ⌝ }
+    requires { ⌜ (p < placesInAll) × (mapSize ≤ length (now t)) × (mapBit (now t) p ≡ 0) ⌝ }
     ensures { λ r. ⌜ now (t .exit) ≡ withBit (now (t .entry)) p ⌝ }
 {
     let i = p / 8;
@@ -93,7 +94,7 @@ pub fn set_bit(t: &mut [u8], p: usize)
 
 // The bit of place p, which was set, is cleared.
 pub fn clear_bit(t: &mut [u8], p: usize)
-    requires { ⌜ (p < 128) × (16 ≤ length (now t)) × (mapBit (now t) p ≡ 1) ⌝ }
+    requires { ⌜ (p < placesInAll) × (mapSize ≤ length (now t)) × (mapBit (now t) p ≡ 1) ⌝ }
     ensures { λ r. ⌜ now (t .exit) ≡ withoutBit (now (t .entry)) p ⌝ }
 {
     let i = p / 8;

@@ -5,6 +5,7 @@ use Prim.Native.Nat.{ℕ, _+_, _<_, _≤_}
 use native.Mathlib.Omega.{arith}
 use lib.ListN.{length, length-append}
 use Rattle.laws.specs.If.{ifEq, eq, ne, by-eq}
+use Rattle.paper.specs.Sizes.{mostWaiting}
 use Rattle.paper.specs.Writing.{tlv}
 use Rattle.paper.specs.Portions.{portionOctets, portionBy}
 use Rattle.writing_octets.specs.Lengths.{elementSize, element-length, element-small}
@@ -88,10 +89,10 @@ module _ (kind : ℕ) (name info : List ℕ) where
       ∙ ap aroundSize pdu-length ∙ present-size kind (length name) (length info) h)
 
   -- a name or information over 240 octets makes a portion over 240 (12); an ABRT has no name
-  pub information-over : 240 < length info → 240 < length (portionBy (formFor kind) name info)
+  pub information-over : mostWaiting < length info → mostWaiting < length (portionBy (formFor kind) name info)
   information-over h = omega (arith, portion-length, information-within kind (length name) (length info))
 
-  pub name-over : (kind ≡ 4 → ⊥) → 240 < length name → 240 < length (portionBy (formFor kind) name info)
+  pub name-over : (kind ≡ 4 → ⊥) → mostWaiting < length name → mostWaiting < length (portionBy (formFor kind) name info)
   name-over g h = omega (arith, portion-length, both-within kind (length name) (length info) g)
 
   -- as it is written: what stands around the PDU's pieces, then those

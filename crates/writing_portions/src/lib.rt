@@ -6,6 +6,7 @@ ghost use mathlib.Core.Path.{_≡_};
 ghost use Prim.Native.Nat.{_+_, _≤_};
 ghost use lib.ListN.{length};
 ghost use Rattle.laws.specs.Runs.{Wrote};
+ghost use Rattle.paper.specs.Sizes.{mostWaiting};
 ghost use Rattle.paper.specs.Writing.{tlv};
 ghost use Rattle.paper.specs.Portions.{portionBy};
 ghost use Rattle.writing_octets.specs.Lengths.{Room};
@@ -14,7 +15,7 @@ ghost use Rattle.writing_portions.specs.Spans.{nameSize, pduSize, portio
 
 // The octets of the A1 with a name: none where none is given, and an ABRT has none.
 fn name_size(kind: u8, name: usize) -> usize
-    requires { ⌜ name ≤ 240 ⌝ }
+    requires { ⌜ name ≤ mostWaiting ⌝ }
     ensures is { λ r. ⌜ r ≡ nameSize kind name ⌝ }
     ensures within { λ r. ⌜ r ≤ name + 4 ⌝ }
 {
@@ -43,7 +44,7 @@ fn between_size(kind: u8) -> usize
 
 // All that stands in a PDU.
 fn pdu_size(kind: u8, name: usize, information: usize) -> usize
-    requires { ⌜ (name ≤ 240) × (information ≤ 240) ⌝ }
+    requires { ⌜ (name ≤ mostWaiting) × (information ≤ mostWaiting) ⌝ }
     ensures is { λ r. ⌜ r ≡ pduSize kind name information ⌝ }
     ensures within { λ r. ⌜ r ≤ name + information + 16 ⌝ }
 {
@@ -72,7 +73,7 @@ fn around_size(n: usize) -> usize
 
 // The octets of a portion with a name and user information of so many octets: none where neither is given.
 pub fn portion_size(kind: u8, name: usize, information: usize) -> usize
-    requires { ⌜ (name ≤ 240) × (information ≤ 240) ⌝ }
+    requires { ⌜ (name ≤ mostWaiting) × (information ≤ mostWaiting) ⌝ }
     ensures is { λ r. ⌜ r ≡ portionSize kind name information ⌝ }
     ensures within { λ r. ⌜ r ≤ name + information + 41 ⌝ }
 {
@@ -85,7 +86,7 @@ pub fn portion_size(kind: u8, name: usize, information: usize) -> usize
 
 // A name in its A1.
 fn write_name(out: &mut [u8], at: usize, kind: u8, name: &[u8]) -> usize
-    requires { ⌜ (length (now name) ≤ 240) × (at + nameSize kind (length (now name)) ≤ length (now out)) ⌝ }
+    requires { ⌜ (length (now name) ≤ mostWaiting) × (at + nameSize kind (length (now name)) ≤ length (now out)) ⌝ }
     ensures { λ r. ⌜ Wrote (now (out .entry)) at (nameOctets kind (now (name .entry))) r (now (out .exit)) ⌝ }
 {
     if kind == ABRT {
@@ -115,7 +116,7 @@ fn write_between(out: &mut [u8], at: usize, kind: u8) -> usize
 
 // What stands in a PDU, in order.
 fn write_pdu(out: &mut [u8], at: usize, kind: u8, name: &[u8], information: &[u8]) -> usize
-    requires { ⌜ (length (now name) ≤ 240) × (at + pduSize kind (length (now name)) (length (now information)) ≤ length (now out)) ⌝ }
+    requires { ⌜ (length (now name) ≤ mostWaiting) × (at + pduSize kind (length (now name)) (length (now information)) ≤ length (now out)) ⌝ }
     ensures { λ r. ⌜ Wrote (now (out .entry)) at (pduOctets (formFor kind) (now (name .entry)) (now (information .entry))) r (now (out .exit)) ⌝ }
 {
     let a = write_name(out, at, kind, name);
@@ -162,7 +163,7 @@ fn write_around(out: &mut [u8], at: usize, kind: u8, n: usize) -> usize
 
 // A portion with a name and user information: nothing where neither is given.
 pub fn write_portion(out: &mut [u8], at: usize, kind: u8, name: &[u8], information: &[u8]) -> usize
-    requires { ⌜ (length (now name) ≤ 240) × (length (now information) ≤ 240) × Room (now out) at (length (portionBy (formFor kind) (now name) (now information))) ⌝ }
+    requires { ⌜ (length (now name) ≤ mostWaiting) × (length (now information) ≤ mostWaiting) × Room (now out) at (length (portionBy (formFor kind) (now name) (now information))) ⌝ }
     ensures { λ r. ⌜ Wrote (now (out .entry)) at (portionBy (formFor kind) (now (name .entry)) (now (information .entry))) r (now (out .exit)) ⌝ }
 {
     if name.len() + information.len() == 0 {

@@ -1,6 +1,6 @@
 use mathlib.Core.Path.{sym, _∙_}
 use Rattle.laws.specs.Runs.{wrote-as, wrote-none}
-use Rattle.call_send.specs.Messages.{none-given}
+use Rattle.laws.specs.Lists.{length-none}
 use borrow.Author.Needs.{needs}
 use Rattle.call_send.proofs.write_given.Statement.{statement}
 use Rattle.call_send.proofs.write_given.Tie as tie
@@ -8,7 +8,7 @@ use Rattle.call_send.proofs.write_given.Tie as tie
 returns : tie.Need-returns
 returns c =
     let pre = c .before .before .before .before .pre in
-    wrote-as (wrote-none _ _) (none-given _ (sym (pre .2) ∙ c .if1 .taken))
+    wrote-as (wrote-none _ _) (length-none _ (sym (pre .2) ∙ c .if1 .taken))
 
 write-portion-requires : tie.Need-write-portion-requires
 write-portion-requires c κs = search needs
