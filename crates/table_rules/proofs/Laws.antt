@@ -16,7 +16,7 @@ use Rattle.laws.specs.Lists.{zeros, firstAt, every}
 use Rattle.laws.specs.Digits.{wordAt}
 use Rattle.paper.specs.Sizes.{services, mostInvocations, mostRejects, mostWaiting}
 use Rattle.paper.specs.declared.Component.{Component}
-use Rattle.paper.specs.Components.{componentAt, nextStart, goOn, items, components, waitingItems}
+use Rattle.paper.specs.Components.{noFault, components, waitingItems}
 use Rattle.paper.specs.Problems.{problem, codeOf, senderOf, senderOfProblem, byLayer}
 use Rattle.paper.specs.Invocations.{isOpen, slotOf}
 use Rattle.paper.specs.Layout.{invocationBy, invocationsAt, rejectBy, rejectsAt, placeSize, stateAt, serviceAt, waitingLengthAt, countAt, firstInvocation, firstReject, waitingStart, slot, mapBit}
@@ -367,50 +367,14 @@ octets-some s n r z e =
     let q : waitingStart + n - waitingStart ≡ n = omega arith in
     yes _ _ _ z (e ∙ ap (λ (k : ℕ). waitingKept (take k (drop waitingStart s))) q)
 
--- ---- the waiting octets one component after another: what is left answers for the whole
-pub record Left (w : List ℕ) (at : ℕ) : Type 0 where
-  pub turns : ℕ
-  pub enough : length w - at < turns
-  pub same : waitingKept w ≡ every isSoundItem (items w (length w) turns at)
+-- ---- the waiting octets one component after another
+pub sound-item : (at : ℕ) (c : Component) (b : Bool) → eqb (c .fault) noFault ≡ b → isSoundItem (record { start = at; part = c }) ≡ b
+unfolding isSoundItem
+sound-item at c b e = e
 
-pub left-start : (w : List ℕ) → (length w ≡ 0 → ⊥) → Left w 0
-unfolding waitingKept waitingItems components
-left-start w n = record { turns = length w - 0 + 1; enough = omega arith; same = ap (every isSoundItem) (sym (ne _ _ _ _ n refl)) }
-
-module _ (w : List ℕ) (at : ℕ) (l : Left w at) (c : Component) (e : c ≡ componentAt w (length w) at) where
-  -- the component at `at` first, then what is left with one turn less
-  split : waitingKept w ≡ ifB (isSoundItem (record { start = at; part = c })) (every isSoundItem (goOn (ltb (nextStart (length w) c) (length w)) (λ _. items w (length w) (l .turns - 1) (nextStart (length w) c)))) false
-  unfolding every items
-  split =
-      let q : l .turns ≡ suc (l .turns - 1) = omega (arith, l .enough) in
-      l .same ∙ ap (λ (k : ℕ). every isSoundItem (items w (length w) k at)) q
-      ∙ ap (λ (d : Component). ifB (isSoundItem (record { start = at; part = d })) (every isSoundItem (goOn (ltb (nextStart (length w) d) (length w)) (λ _. items w (length w) (l .turns - 1) (nextStart (length w) d)))) false) (sym e)
-
-  pub left-fault : (c .fault ≡ 3 → ⊥) → false ≡ waitingKept w
-  unfolding isSoundItem
-  left-fault n = no _ _ _ (ne-eqb (c .fault) 3 n) refl ∙ sym split
-
-  module _ (f : c .fault ≡ 3) where
-    next : nextStart (length w) c ≡ c .stop
-    unfolding nextStart
-    next = sym (eq _ _ _ _ f refl)
-
-    sound-split : waitingKept w ≡ every isSoundItem (goOn (ltb (c .stop) (length w)) (λ _. items w (length w) (l .turns - 1) (c .stop)))
-    unfolding isSoundItem
-    sound-split =
-        split ∙ sym (yes _ _ _ (eq-eqb (c .fault) 3 f) refl)
-        ∙ ap (λ (k : ℕ). every isSoundItem (goOn (ltb k (length w)) (λ _. items w (length w) (l .turns - 1) k))) next
-
-    pub left-end : length w ≤ c .stop → true ≡ waitingKept w
-    unfolding every
-    left-end h = sym (sound-split ∙ ap (λ (b : Bool). every isSoundItem (goOn b (λ _. items w (length w) (l .turns - 1) (c .stop)))) (le-ltb (c .stop) (length w) h))
-
-    pub left-more : c .stop < length w → at + 5 ≤ c .stop → Left w (c .stop)
-    left-more h g = record {
-      turns = l .turns - 1;
-      enough = omega (arith, l .enough);
-      same = sound-split ∙ ap (λ (b : Bool). every isSoundItem (goOn b (λ _. items w (length w) (l .turns - 1) (c .stop)))) (lt-ltb (c .stop) (length w) h);
-    }
+pub some-wait : (w : List ℕ) → (length w ≡ 0 → ⊥) → every isSoundItem (components w (length w) 0) ≡ waitingKept w
+unfolding waitingKept waitingItems
+some-wait w n = ap (every isSoundItem) (ne _ _ _ _ n refl)
 
 -- ---- the rejects and the waiting octets where there are none: one run of zeros
 reject-run : (id o : ℕ) (r : Bool) → o < 256 → ifB (rejectZero (rejectBy id o)) r false ≡ ifEq id 0 (ifEq o 0 r false) false
