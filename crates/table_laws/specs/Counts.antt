@@ -12,7 +12,7 @@ use Rattle.laws.specs.Sums.{sum, sum-ext, sum-plus, sum-zero, sumBy}
 use Rattle.laws.specs.Lists.{firstAt}
 use Rattle.laws.specs.Digits.{octetDigits, lowest, count}
 use Rattle.paper.specs.Dialogues.{Place, emptyPlace}
-use Rattle.paper.specs.Sizes.{placesInAll}
+use Rattle.paper.specs.Sizes.{placesInAll, services}
 use Rattle.paper.specs.Shares.{free}
 use Rattle.paper.specs.Calls.{Table, placeAt, isFree, isOf, held, dialogues, lowestFree}
 use Rattle.paper.specs.Layout.{flag, mapSize, tableSize, placeBy, slot, view}
@@ -31,7 +31,7 @@ lowest-first (x ∷ ps) = go (lowest-first ps) (isFree x) refl
     go ih true q = ap (λ (n : ℕ). lowest (n ∷ map flag ps)) (sym (yes (isFree x) 1 0 q refl)) ∙ yes (isFree x) 0 (suc (firstAt isFree ps)) q refl
     go ih false q = ap (λ (n : ℕ). lowest (n ∷ map flag ps)) (sym (no (isFree x) 1 0 q refl)) ∙ no (isFree x) 0 (suc (firstAt isFree ps)) q (ap suc ih)
 
-pub ready-lowest : (t : List ℕ) → Ready t → lowest (octetDigits (take 16 t)) ≡ lowestFree (view t)
+pub ready-lowest : (t : List ℕ) → Ready t → lowest (octetDigits (take mapSize t)) ≡ lowestFree (view t)
 unfolding lowestFree
 ready-lowest t r = ap lowest (ready-bits t r) ∙ lowest-first (view t .places)
 
@@ -82,18 +82,18 @@ count-free [] = refl
 count-free (x ∷ ps) = ap (λ (n : ℕ). flag x + n) (count-free ps)
 
 -- where each place is fine: every place is a service's or free, and the map's bits that are set are those that no service holds
-module _ (t : List ℕ) (each : (p : ℕ) → p < 128 → FinePlace (placeAt (view t) p)) where
-  pub places-all : sum (held (view t .places)) 16 + sumBy flag (view t .places) ≡ 128
-  places-all = held-free (view t .places) 16 (λ i l. each i (omega (arith, view-length t)) .control .service) ∙ view-length t
+module _ (t : List ℕ) (each : (p : ℕ) → p < placesInAll → FinePlace (placeAt (view t) p)) where
+  pub places-all : sum (held (view t .places)) services + sumBy flag (view t .places) ≡ placesInAll
+  places-all = held-free (view t .places) services (λ i l. each i (omega (arith, view-length t)) .control .service) ∙ view-length t
 
   pub map-count : octetDigits (take mapSize t) ≡ map flag (view t .places) → count (octetDigits (take mapSize t)) ≡ free (dialogues (view t))
-  map-count e = ap count e ∙ count-free (view t .places) ∙ less (sum (held (view t .places)) 16) (sumBy flag (view t .places)) places-all
+  map-count e = ap count e ∙ count-free (view t .places) ∙ less (sum (held (view t .places)) services) (sumBy flag (view t .places)) places-all
     where
-      less : (n m : ℕ) → n + m ≡ 128 → m ≡ 128 - n
+      less : (n m : ℕ) → n + m ≡ placesInAll → m ≡ placesInAll - n
       less n m h = omega arith
 
-pub all-places : (T : Table) → Fine T → sum (held (T .places)) 16 + sumBy flag (T .places) ≡ 128
-all-places T f = held-free (T .places) 16 (λ i l. f .each i (omega (arith, f .places)) .control .service) ∙ f .places
+pub all-places : (T : Table) → Fine T → sum (held (T .places)) services + sumBy flag (T .places) ≡ placesInAll
+all-places T f = held-free (T .places) services (λ i l. f .each i (omega (arith, f .places)) .control .service) ∙ f .places
 
 -- where each place passes, before the shares are judged
 pub walk-count : (t : List ℕ) → Octets t → length t ≡ tableSize → all (slotAtKept t) placesInAll ≡ true → count (octetDigits (take mapSize t)) ≡ free (dialogues (view t))
@@ -124,16 +124,16 @@ first-free (x ∷ ps) h = go (isFree x) refl (first-free ps)
         ap (λ (n : ℕ). isFree (getD (x ∷ ps) n (emptyPlace 0))) (sym z) ∙ ih (omega (arith, z, h))
 
 -- a table with fewer dialogues than places has a lowest free place
-pub free-there : (T : Table) → Fine T → sum (held (T .places)) 16 < 128 → lowestFree T < 128
+pub free-there : (T : Table) → Fine T → sum (held (T .places)) services < placesInAll → lowestFree T < placesInAll
 unfolding lowestFree
 free-there T f h =
     subst (λ (n : ℕ). firstAt isFree (T .places) < n) (f .places)
-    (first-there (T .places) (more (sum (held (T .places)) 16) (sumBy flag (T .places)) (all-places T f) h))
+    (first-there (T .places) (more (sum (held (T .places)) services) (sumBy flag (T .places)) (all-places T f) h))
   where
-    more : (n m : ℕ) → n + m ≡ 128 → n < 128 → 0 < m
+    more : (n m : ℕ) → n + m ≡ placesInAll → n < placesInAll → 0 < m
     more n m e h = omega arith
 
-pub lowest-is-free : (T : Table) → Fine T → lowestFree T < 128 → flag (placeAt T (lowestFree T)) ≡ 1
+pub lowest-is-free : (T : Table) → Fine T → lowestFree T < placesInAll → flag (placeAt T (lowestFree T)) ≡ 1
 unfolding lowestFree flag
 lowest-is-free T f h =
     sym (yes (isFree (placeAt T (lowestFree T))) 1 0 (first-free (T .places) (subst (λ (n : ℕ). firstAt isFree (T .places) < n) (sym (f .places)) h)) refl)

@@ -5,6 +5,7 @@ use mathlib.Core.List.{List}
 use Prim.Native.Nat.{ℕ, _<_, _≤_}
 use lib.ListN.{length, getD, drop}
 use Rattle.laws.specs.Lists.{zeros}
+use Rattle.paper.specs.Sizes.{placesInAll, services, mostInvocations, mostRejects, mostWaiting, turns}
 use Rattle.paper.specs.declared.Invocation.{Invocation}
 use Rattle.paper.specs.declared.Reject.{Reject}
 use Rattle.paper.specs.declared.Control.{Control}
@@ -52,29 +53,29 @@ pub record FinePeer (state peerlen : ℕ) (peer : List ℕ) : Type 0 where
 
 -- "states, services, classes and lengths are in range"
 pub record FineControl (c : Control) : Type 0 where
-  pub turn : c .turn < 16777216
+  pub turn : c .turn < turns
   pub state : c .state < 5
-  pub service : c .service < 16
+  pub service : c .service < services
   pub four : length (c .peer) ≡ 4
   pub peer : FinePeer (c .state) (c .peerlen) (c .peer)
-  pub count : c .count ≤ 8
-  pub eight : length (c .invocations) ≡ 8
+  pub count : c .count ≤ mostRejects
+  pub eight : length (c .invocations) ≡ mostInvocations
   pub invocations : FineInvocations (c .invocations)
-  pub eights : length (c .rejects) ≡ 8
+  pub eights : length (c .rejects) ≡ mostRejects
   pub rejects : FineRejects (c .count) (c .rejects)
 
 -- "a free place is all zero but its turn"; "waiting octets are whole components, well formed and with the pieces that Coding gives"
 pub record FinePlace (x : Place) : Type 0 where
   pub control : FineControl (x .control)
-  pub room : length (x .waiting) ≤ 240
+  pub room : length (x .waiting) ≤ mostWaiting
   pub whole : waitingKept (x .waiting) ≡ true
   pub free : x .control .state ≡ 0 → x ≡ emptyPlace (x .control .turn)
 
 -- "the map agrees with the places" is in the octet form: the map is made of the places there.
 -- "shares as for 13; nobody above the limit; free places at least the sum of unused guarantees"
 pub record Fine (T : Table) : Type 0 where
-  pub guarantees : length (T .guarantees) ≡ 16
-  pub limits : length (T .limits) ≡ 16
-  pub places : length (T .places) ≡ 128
-  pub each : (p : ℕ) → p < 128 → FinePlace (placeAt T p)
+  pub guarantees : length (T .guarantees) ≡ services
+  pub limits : length (T .limits) ≡ services
+  pub places : length (T .places) ≡ placesInAll
+  pub each : (p : ℕ) → p < placesInAll → FinePlace (placeAt T p)
   pub shares : tableShares T ≡ true

@@ -11,3 +11,4 @@ pub mod Owners
 pub mod Changes
 pub mod Invocations
 pub mod Keeps
+pub mod Following

@@ -1,5 +1,5 @@
 -- Runs of zeros by an OR and by words; the invocations and rejects one after another. Assumes nothing.
-use Prim.Native.Nat.{ℕ, zero, suc, _+_, _*_, _-_, _/_, _%_, _≤_, _<_}
+use Prim.Native.Nat.{ℕ, zero, suc, _+_, _*_, _-_, _/_, _%_, _^_, _≤_, _<_}
 use mathlib.Core.Path.{_≡_, refl, sym, ap, _∙_}
 use mathlib.Core.Bool.{Bool, true, false, _&&_, cond}
 use mathlib.Core.List.{List, [], _∷_}
@@ -14,13 +14,14 @@ use lib.Seq.{drop-cons}
 use Rattle.laws.specs.If.{ifLt, ifEq, ifB, lt, ge, eq, ne, yes, no, was-eq, true-false}
 use Rattle.laws.specs.Lists.{zeros, firstAt, every}
 use Rattle.laws.specs.Digits.{wordAt}
+use Rattle.paper.specs.Sizes.{services, mostInvocations, mostRejects, mostWaiting}
 use Rattle.paper.specs.declared.Component.{Component}
-use Rattle.paper.specs.Components.{componentAt, nextStart, goOn, items, components, waitingItems}
+use Rattle.paper.specs.Components.{noFault, components, waitingItems}
 use Rattle.paper.specs.Problems.{problem, codeOf, senderOf, senderOfProblem, byLayer}
 use Rattle.paper.specs.Invocations.{isOpen, slotOf}
-use Rattle.paper.specs.Layout.{invocationBy, invocationsAt, rejectBy, rejectsAt, placeStart, slot, mapBit}
+use Rattle.paper.specs.Layout.{invocationBy, invocationsAt, rejectBy, rejectsAt, placeSize, stateAt, serviceAt, waitingLengthAt, countAt, firstInvocation, firstReject, waitingStart, slot, mapBit}
 use Rattle.paper.specs.Rules.{invocationKept, differs, invocationsKept, rejectKept, rejectZero, rejectsKept, isSoundItem, waitingKept}
-use Rattle.table_rules.specs.Kinds.{invocationNo, invocationsFrom, IdleFrom, noneOpen, invocationAtKept, rejectNo, rejectsFrom, rejectAtKept, octetsKept, tailKept, kindOf, kindAt}
+use Rattle.table_rules.specs.Kinds.{invocationNo, invocationsFrom, IdleFrom, noneOpen, invocationAtKept, rejectNo, rejectsFrom, rejectAtKept, octetsKept, tailKept, freeKind, brokenKind, kindOf, kindAt}
 
 -- ---- an OR over a run
 or-zero : (a b : ℕ) → eqb (bitOr a b) 0 ≡ (eqb a 0 && eqb b 0)
@@ -121,27 +122,39 @@ run-spoilt s a k h l n = go (zeros (drop a s)) refl
         let q : a + (k - a) ≡ k = omega arith in
         absurd (n (ap (λ (i : ℕ). getD s i 0) (sym q) ∙ run-at s (k - a) a (omega arith) e))
 
--- ---- a peer's ID
-module _ (n a b c d : ℕ) where
-  pub past-four : n ≡ 4 → true ≡ zeros (drop n (a ∷ b ∷ c ∷ d ∷ []))
-  unfolding zeros
-  past-four e = rw e
+-- ---- a peer's ID as one number: shifted by its octets, what is left is 0 where those past them are
+low-step : (x y : ℕ) → eqb (x + y * 256) 0 ≡ ifEq x 0 (eqb y 0) false
+low-step x y = go (eqb x 0) refl (eqb y 0) refl
+  where
+    go : (b : Bool) → eqb x 0 ≡ b → (c : Bool) → eqb y 0 ≡ c → eqb (x + y * 256) 0 ≡ ifEq x 0 (eqb y 0) false
+    go false e c f = ne-eqb (x + y * 256) 0 (λ q. eqb-false x 0 e (omega (arith, q))) ∙ ne _ _ _ _ (eqb-false x 0 e) refl
+    go true e true f = eq-eqb (x + y * 256) 0 (omega (arith, eqb-true x 0 e, eqb-true y 0 f)) ∙ eq _ _ _ _ (eqb-true x 0 e) (sym f)
+    go true e false f = ne-eqb (x + y * 256) 0 (λ q. eqb-false y 0 f (omega (arith, q))) ∙ eq _ _ _ _ (eqb-true x 0 e) (sym f)
 
-  pub past-three : n ≡ 3 → d ≡ 0 → true ≡ zeros (drop n (a ∷ b ∷ c ∷ d ∷ []))
-  unfolding zeros
-  past-three e z = rw e (eq _ _ _ _ z refl)
+module _ (l : List ℕ) (e : length l ≡ 4) (o : (getD l 0 0 < 256) × (getD l 1 0 < 256) × (getD l 2 0 < 256) × (getD l 3 0 < 256)) where
+  abbrev four : ℕ
+  four = getD l 0 0 + getD l 1 0 * 256 + getD l 2 0 * 65536 + getD l 3 0 * 16777216
 
-  pub past-two : n ≡ 2 → c ≡ 0 → d ≡ 0 → true ≡ zeros (drop n (a ∷ b ∷ c ∷ d ∷ []))
-  unfolding zeros
-  past-two e y z = rw e (eq _ _ _ _ y (eq _ _ _ _ z refl))
+  -- w is the number of the octets after the i-th
+  step : (i w v : ℕ) → i < 4 → v ≡ getD l i 0 + w * 256 → eqb w 0 ≡ zeros (drop (i + 1) l) → eqb v 0 ≡ zeros (drop i l)
+  step i w v h q r = ap (λ (k : ℕ). eqb k 0) q ∙ low-step (getD l i 0) w ∙ ap (λ (b : Bool). ifEq (getD l i 0) 0 b false) r ∙ sym (run-step l i (omega arith))
 
-  pub past-one : n ≡ 1 → b ≡ 0 → c ≡ 0 → d ≡ 0 → true ≡ zeros (drop n (a ∷ b ∷ c ∷ d ∷ []))
-  unfolding zeros
-  past-one e x y z = rw e (eq _ _ _ _ x (eq _ _ _ _ y (eq _ _ _ _ z refl)))
+  past-3 : eqb (four / 16777216) 0 ≡ zeros (drop 3 l)
+  past-3 = step 3 0 (four / 16777216) (omega arith) (omega (arith, o)) (sym (run-none l 4 (omega arith)))
 
-  pub past-none : n ≡ 0 → b ≡ 0 → c ≡ 0 → d ≡ 0 → eqb a 0 ≡ zeros (drop n (a ∷ b ∷ c ∷ d ∷ []))
-  unfolding zeros
-  past-none e x y z = rw e (sym (if-last a _ (sym (eq _ _ _ _ x (eq _ _ _ _ y (eq _ _ _ _ z refl))))))
+  past-2 : eqb (four / 65536) 0 ≡ zeros (drop 2 l)
+  past-2 = step 2 (four / 16777216) (four / 65536) (omega arith) (omega (arith, o)) past-3
+
+  past-1 : eqb (four / 256) 0 ≡ zeros (drop 1 l)
+  past-1 = step 1 (four / 65536) (four / 256) (omega arith) (omega (arith, o)) past-2
+
+  pub past-zero : (n : ℕ) → n ≤ 4 → eqb (four / 2 ^ (n * 8)) 0 ≡ zeros (drop n l)
+  past-zero zero h = step 0 (four / 256) (four / 1) (omega arith) (omega (arith, o)) past-1
+  past-zero (suc zero) h = past-1
+  past-zero (suc (suc zero)) h = past-2
+  past-zero (suc (suc (suc zero))) h = past-3
+  past-zero (suc (suc (suc (suc zero)))) h = eq-eqb (four / 4294967296) 0 (omega (arith, o)) ∙ sym (run-none l 4 (omega arith))
+  past-zero (suc (suc (suc (suc (suc n))))) h = absurd (omega arith)
 
 -- ---- a waiting reject by its two octets
 module _ (id o : ℕ) (small : o < 256) where
@@ -211,15 +224,15 @@ unfolding ifB ifEq
 as-test o r = refl
 
 -- ---- the invocations one after another
-module _ (s : List ℕ) (i : ℕ) (h : i < 8) where
+module _ (s : List ℕ) (i : ℕ) (h : i < mostInvocations) where
   pub invocations-step : invocationsFrom i s ≡ invocationNo s i ∷ invocationsFrom (i + 1) s
   invocations-step =
-      let n : 8 - i ≡ suc (8 - (i + 1)) = omega arith in
-      let a : suc (12 + 2 * i) ≡ 12 + 2 * i + 1 = omega arith in
-      let b : suc (suc (12 + 2 * i)) ≡ 12 + 2 * (i + 1) = omega arith in
-      ap (λ (k : ℕ). invocationsAt k (12 + 2 * i) s) n
-      ∙ ap (λ (k : ℕ). invocationBy (getD s (12 + 2 * i) 0) (getD s k 0) ∷ invocationsAt (8 - (i + 1)) (suc (suc (12 + 2 * i))) s) a
-      ∙ ap (λ (k : ℕ). invocationNo s i ∷ invocationsAt (8 - (i + 1)) k s) b
+      let n : mostInvocations - i ≡ suc (mostInvocations - (i + 1)) = omega arith in
+      let a : suc (firstInvocation + 2 * i) ≡ firstInvocation + 2 * i + 1 = omega arith in
+      let b : suc (suc (firstInvocation + 2 * i)) ≡ firstInvocation + 2 * (i + 1) = omega arith in
+      ap (λ (k : ℕ). invocationsAt k (firstInvocation + 2 * i) s) n
+      ∙ ap (λ (k : ℕ). invocationBy (getD s (firstInvocation + 2 * i) 0) (getD s k 0) ∷ invocationsAt (mostInvocations - (i + 1)) (suc (suc (firstInvocation + 2 * i))) s) a
+      ∙ ap (λ (k : ℕ). invocationNo s i ∷ invocationsAt (mostInvocations - (i + 1)) k s) b
 
   pub kept-step : invocationsKept (invocationsFrom i s) ≡ ifB (invocationAtKept s i) (invocationsKept (invocationsFrom (i + 1) s)) false
   unfolding invocationsKept invocationAtKept
@@ -230,15 +243,15 @@ module _ (s : List ℕ) (i : ℕ) (h : i < 8) where
   open-step id = ap (noneOpen id) invocations-step ∙ first (isOpen id (invocationNo s i)) (slotOf (invocationsFrom (i + 1) s) id) (length (invocationsFrom (i + 1) s))
 
 -- ---- and the rejects
-module _ (s : List ℕ) (n i : ℕ) (h : i < 8) where
+module _ (s : List ℕ) (n i : ℕ) (h : i < mostRejects) where
   rejects-step : rejectsFrom i s ≡ rejectNo s i ∷ rejectsFrom (i + 1) s
   rejects-step =
-      let n : 8 - i ≡ suc (8 - (i + 1)) = omega arith in
-      let a : suc (28 + 2 * i) ≡ 28 + 2 * i + 1 = omega arith in
-      let b : suc (suc (28 + 2 * i)) ≡ 28 + 2 * (i + 1) = omega arith in
-      ap (λ (k : ℕ). rejectsAt k (28 + 2 * i) s) n
-      ∙ ap (λ (k : ℕ). rejectBy (getD s (28 + 2 * i) 0) (getD s k 0) ∷ rejectsAt (8 - (i + 1)) (suc (suc (28 + 2 * i))) s) a
-      ∙ ap (λ (k : ℕ). rejectNo s i ∷ rejectsAt (8 - (i + 1)) k s) b
+      let n : mostRejects - i ≡ suc (mostRejects - (i + 1)) = omega arith in
+      let a : suc (firstReject + 2 * i) ≡ firstReject + 2 * i + 1 = omega arith in
+      let b : suc (suc (firstReject + 2 * i)) ≡ firstReject + 2 * (i + 1) = omega arith in
+      ap (λ (k : ℕ). rejectsAt k (firstReject + 2 * i) s) n
+      ∙ ap (λ (k : ℕ). rejectBy (getD s (firstReject + 2 * i) 0) (getD s k 0) ∷ rejectsAt (mostRejects - (i + 1)) (suc (suc (firstReject + 2 * i))) s) a
+      ∙ ap (λ (k : ℕ). rejectNo s i ∷ rejectsAt (mostRejects - (i + 1)) k s) b
 
   pub waits-step : rejectsKept (n - i) (rejectsFrom i s) ≡ ifB (rejectAtKept n i s) (rejectsKept (n - (i + 1)) (rejectsFrom (i + 1) s)) false
   unfolding rejectsKept rejectAtKept
@@ -303,111 +316,65 @@ words-zero s a x y i h = go (ltb i 8) refl
 
 -- ---- past the last of them that may be open
 module _ (s : List ℕ) (n k : ℕ) (h : IdleFrom n s) (e : k ≡ n) where
-  rest : (i : ℕ) → i < 2 * (8 - k) → getD s (12 + 2 * k + i) 0 ≡ 0
-  rest i l = ap (λ (m : ℕ). getD s (12 + 2 * m + i) 0) e ∙ h .zero i (omega arith)
+  rest : (i : ℕ) → i < 2 * (mostInvocations - k) → getD s (firstInvocation + 2 * k + i) 0 ≡ 0
+  rest i l = ap (λ (m : ℕ). getD s (firstInvocation + 2 * m + i) 0) e ∙ h .zero i (omega arith)
 
   pub kept-end : invocationsKept (invocationsFrom k s) ≡ true
-  kept-end = sym (none-open s (8 - k) (12 + 2 * k) rest)
+  kept-end = sym (none-open s (mostInvocations - k) (firstInvocation + 2 * k) rest)
 
   pub open-end : (id : ℕ) → noneOpen id (invocationsFrom k s) ≡ true
-  open-end id = none-found s id (8 - k) (12 + 2 * k) rest
+  open-end id = none-found s id (mostInvocations - k) (firstInvocation + 2 * k) rest
 
-pub idle-eight : (s : List ℕ) → IdleFrom 8 s
-idle-eight s = record { few = omega arith; zero = λ i l. absurd (omega arith) }
+pub idle-four : (s : List ℕ) → wordAt s (firstInvocation + 8) ≡ 0 → IdleFrom 4 s
+idle-four s e = record { few = omega arith; zero = λ i l. word-zero s (firstInvocation + 8) e i (omega arith) }
 
-pub idle-four : (s : List ℕ) → wordAt s 20 ≡ 0 → IdleFrom 4 s
-idle-four s e = record { few = omega arith; zero = λ i l. word-zero s 20 e i (omega arith) }
-
-pub idle-one : (s : List ℕ) → wordAt s 14 ≡ 0 → wordAt s 20 ≡ 0 → IdleFrom 1 s
+pub idle-one : (s : List ℕ) → wordAt s (firstInvocation + 2) ≡ 0 → wordAt s (firstInvocation + 8) ≡ 0 → IdleFrom 1 s
 idle-one s x y = record { few = omega arith; zero = λ i l. go i (omega arith) (ltb i 8) refl }
   where
-    go : (i : ℕ) → i < 14 → (b : Bool) → ltb i 8 ≡ b → getD s (14 + i) 0 ≡ 0
-    go i l true q = word-zero s 14 x i (ltb-true i 8 q)
+    go : (i : ℕ) → i < 14 → (b : Bool) → ltb i 8 ≡ b → getD s (firstInvocation + 2 + i) 0 ≡ 0
+    go i l true q = word-zero s (firstInvocation + 2) x i (ltb-true i 8 q)
     go i l false q =
         let m : 8 ≤ i = ltb-false i 8 q in
-        let w : 14 + i ≡ 20 + (i - 6) = omega arith in
-        ap (λ (k : ℕ). getD s k 0) w ∙ word-zero s 20 y (i - 6) (omega arith)
+        let w : firstInvocation + 2 + i ≡ firstInvocation + 8 + (i - 6) = omega arith in
+        ap (λ (k : ℕ). getD s k 0) w ∙ word-zero s (firstInvocation + 8) y (i - 6) (omega arith)
 
-pub waits-end : (s : List ℕ) (n k : ℕ) → k ≡ 8 → rejectsKept (n - k) (rejectsFrom k s) ≡ true
+pub waits-end : (s : List ℕ) (n k : ℕ) → k ≡ mostRejects → rejectsKept (n - k) (rejectsFrom k s) ≡ true
 unfolding rejectsKept
 waits-end s n k e = ap (λ (i : ℕ). rejectsKept (n - i) (rejectsFrom i s)) e
 
 -- ---- a free place by its words
-pub free-words : (s : List ℕ) → length s ≡ 284 → getD s 3 0 ≡ 0
-    → zeros (drop 3 s) ≡ ifEq (wordAt s 4) 0 (ifEq (wordAt s 12) 0 (ifEq (wordAt s 20) 0 (zeros (drop 28 s)) false) false) false
+pub free-words : (s : List ℕ) → length s ≡ placeSize → getD s stateAt 0 ≡ 0
+    → zeros (drop stateAt s) ≡ ifEq (wordAt s serviceAt) 0 (ifEq (wordAt s firstInvocation) 0 (ifEq (wordAt s (firstInvocation + 8)) 0 (zeros (drop firstReject s)) false) false) false
 free-words s e z =
-    run-step s 3 (omega arith)
+    run-step s stateAt (omega arith)
     ∙ sym (eq _ _ _ _ z refl)
-    ∙ word-step s 4 (omega arith)
-    ∙ ap (λ (r : Bool). ifEq (wordAt s 4) 0 r false)
-    (word-step s 12 (omega arith) ∙ ap (λ (r : Bool). ifEq (wordAt s 12) 0 r false) (word-step s 20 (omega arith)))
+    ∙ word-step s serviceAt (omega arith)
+    ∙ ap (λ (r : Bool). ifEq (wordAt s serviceAt) 0 r false)
+    (word-step s firstInvocation (omega arith) ∙ ap (λ (r : Bool). ifEq (wordAt s firstInvocation) 0 r false) (word-step s (firstInvocation + 8) (omega arith)))
 
 -- ---- the waiting octets
-pub octets-none : (s : List ℕ) (n : ℕ) → n ≡ 0 → zeros (drop 44 s) ≡ octetsKept n s
+pub octets-none : (s : List ℕ) (n : ℕ) → n ≡ 0 → zeros (drop waitingStart s) ≡ octetsKept n s
 unfolding octetsKept waitingKept waitingItems every
-octets-none s n e = go (zeros (drop 44 s)) refl ∙ ap (λ (k : ℕ). octetsKept k s) (sym e)
+octets-none s n e = go (zeros (drop waitingStart s)) refl ∙ ap (λ (k : ℕ). octetsKept k s) (sym e)
   where
-    go : (b : Bool) → zeros (drop 44 s) ≡ b → b ≡ ifB (zeros (drop 44 s)) (every isSoundItem (waitingItems [])) false
+    go : (b : Bool) → zeros (drop waitingStart s) ≡ b → b ≡ ifB (zeros (drop waitingStart s)) (every isSoundItem (waitingItems [])) false
     go true q = yes _ _ _ q (ap (every isSoundItem) (eq _ _ _ _ refl refl))
     go false q = no _ _ _ q refl
 
-pub octets-some : (s : List ℕ) (n : ℕ) (r : Bool) → zeros (drop (44 + n) s) ≡ true → r ≡ waitingKept (take (44 + n - 44) (drop 44 s)) → r ≡ octetsKept n s
+pub octets-some : (s : List ℕ) (n : ℕ) (r : Bool) → zeros (drop (waitingStart + n) s) ≡ true → r ≡ waitingKept (take (waitingStart + n - waitingStart) (drop waitingStart s)) → r ≡ octetsKept n s
 unfolding octetsKept
 octets-some s n r z e =
-    let q : 44 + n - 44 ≡ n = omega arith in
-    yes _ _ _ z (e ∙ ap (λ (k : ℕ). waitingKept (take k (drop 44 s))) q)
+    let q : waitingStart + n - waitingStart ≡ n = omega arith in
+    yes _ _ _ z (e ∙ ap (λ (k : ℕ). waitingKept (take k (drop waitingStart s))) q)
 
--- ---- the kind of place p, by the part of the table that was lent
-pub kind-here : (t : List ℕ) (p b r : ℕ) → r ≡ kindOf (take (placeStart p + 284 - placeStart p) (drop (placeStart p) t)) b → b ≡ mapBit t p → r ≡ kindAt t p
-unfolding kindAt slot
-kind-here t p b r e q =
-    let n : placeStart p + 284 - placeStart p ≡ 284 = omega arith in
-    e ∙ ap (λ (k : ℕ). kindOf (take k (drop (placeStart p) t)) b) n ∙ ap (kindOf (take 284 (drop (placeStart p) t))) q
+-- ---- the waiting octets one component after another
+pub sound-item : (at : ℕ) (c : Component) (b : Bool) → eqb (c .fault) noFault ≡ b → isSoundItem (record { start = at; part = c }) ≡ b
+unfolding isSoundItem
+sound-item at c b e = e
 
--- ---- the waiting octets one component after another: what is left answers for the whole
-pub record Left (w : List ℕ) (at : ℕ) : Type 0 where
-  pub turns : ℕ
-  pub enough : length w - at < turns
-  pub same : waitingKept w ≡ every isSoundItem (items w (length w) turns at)
-
-pub left-start : (w : List ℕ) → (length w ≡ 0 → ⊥) → Left w 0
-unfolding waitingKept waitingItems components
-left-start w n = record { turns = length w - 0 + 1; enough = omega arith; same = ap (every isSoundItem) (sym (ne _ _ _ _ n refl)) }
-
-module _ (w : List ℕ) (at : ℕ) (l : Left w at) (c : Component) (e : c ≡ componentAt w (length w) at) where
-  -- the component at `at` first, then what is left with one turn less
-  split : waitingKept w ≡ ifB (isSoundItem (record { start = at; part = c })) (every isSoundItem (goOn (ltb (nextStart (length w) c) (length w)) (λ _. items w (length w) (l .turns - 1) (nextStart (length w) c)))) false
-  unfolding every items
-  split =
-      let q : l .turns ≡ suc (l .turns - 1) = omega (arith, l .enough) in
-      l .same ∙ ap (λ (k : ℕ). every isSoundItem (items w (length w) k at)) q
-      ∙ ap (λ (d : Component). ifB (isSoundItem (record { start = at; part = d })) (every isSoundItem (goOn (ltb (nextStart (length w) d) (length w)) (λ _. items w (length w) (l .turns - 1) (nextStart (length w) d)))) false) (sym e)
-
-  pub left-fault : (c .fault ≡ 3 → ⊥) → false ≡ waitingKept w
-  unfolding isSoundItem
-  left-fault n = no _ _ _ (ne-eqb (c .fault) 3 n) refl ∙ sym split
-
-  module _ (f : c .fault ≡ 3) where
-    next : nextStart (length w) c ≡ c .stop
-    unfolding nextStart
-    next = sym (eq _ _ _ _ f refl)
-
-    sound-split : waitingKept w ≡ every isSoundItem (goOn (ltb (c .stop) (length w)) (λ _. items w (length w) (l .turns - 1) (c .stop)))
-    unfolding isSoundItem
-    sound-split =
-        split ∙ sym (yes _ _ _ (eq-eqb (c .fault) 3 f) refl)
-        ∙ ap (λ (k : ℕ). every isSoundItem (goOn (ltb k (length w)) (λ _. items w (length w) (l .turns - 1) k))) next
-
-    pub left-end : length w ≤ c .stop → true ≡ waitingKept w
-    unfolding every
-    left-end h = sym (sound-split ∙ ap (λ (b : Bool). every isSoundItem (goOn b (λ _. items w (length w) (l .turns - 1) (c .stop)))) (le-ltb (c .stop) (length w) h))
-
-    pub left-more : c .stop < length w → at + 5 ≤ c .stop → Left w (c .stop)
-    left-more h g = record {
-      turns = l .turns - 1;
-      enough = omega (arith, l .enough);
-      same = sound-split ∙ ap (λ (b : Bool). every isSoundItem (goOn b (λ _. items w (length w) (l .turns - 1) (c .stop)))) (lt-ltb (c .stop) (length w) h);
-    }
+pub some-wait : (w : List ℕ) → (length w ≡ 0 → ⊥) → every isSoundItem (components w (length w) 0) ≡ waitingKept w
+unfolding waitingKept waitingItems
+some-wait w n = ap (every isSoundItem) (ne _ _ _ _ n refl)
 
 -- ---- the rejects and the waiting octets where there are none: one run of zeros
 reject-run : (id o : ℕ) (r : Bool) → o < 256 → ifB (rejectZero (rejectBy id o)) r false ≡ ifEq id 0 (ifEq o 0 r false) false
@@ -440,21 +407,26 @@ rejects-run s o (suc n) a h =
     ∙ ap (λ (b : Bool). ifEq (getD s a 0) 0 b false) (sym (run-step s (suc a) (omega arith) ∙ ap (λ (k : ℕ). ifEq (getD s (suc a) 0) 0 (zeros (drop k s)) false) q))
     ∙ sym (run-step s a (omega arith) ∙ ap (λ (k : ℕ). ifEq (getD s a 0) 0 (zeros (drop k s)) false) p)
 
-pub tail-none : (s : List ℕ) → ((i : ℕ) → getD s i 0 < 256) → length s ≡ 284 → getD s 10 0 ≡ 0 → getD s 11 0 ≡ 0 → zeros (drop 28 s) ≡ tailKept s
+pub tail-none : (s : List ℕ) → ((i : ℕ) → getD s i 0 < 256) → length s ≡ placeSize → getD s waitingLengthAt 0 ≡ 0 → getD s countAt 0 ≡ 0 → zeros (drop firstReject s) ≡ tailKept s
 unfolding tailKept
 tail-none s o e n k =
-    sym (rejects-run s o 8 28 (omega arith))
-    ∙ ap (λ (b : Bool). ifB (rejectsKept 0 (rejectsFrom 0 s)) b false) (octets-none s (getD s 10 0) n ∙ ge _ _ _ _ (omega arith) refl)
-    ∙ ap (λ (m : ℕ). ifB (rejectsKept m (rejectsFrom 0 s)) (ifLt 240 (getD s 10 0) false (octetsKept (getD s 10 0) s)) false) (sym k)
+    sym (rejects-run s o mostRejects firstReject (omega arith))
+    ∙ ap (λ (b : Bool). ifB (rejectsKept 0 (rejectsFrom 0 s)) b false) (octets-none s (getD s waitingLengthAt 0) n ∙ ge _ _ _ _ (omega arith) refl)
+    ∙ ap (λ (m : ℕ). ifB (rejectsKept m (rejectsFrom 0 s)) (ifLt mostWaiting (getD s waitingLengthAt 0) false (octetsKept (getD s waitingLengthAt 0) s)) false) (sym k)
+
+-- ---- the kind of place p, by its octets and its bit
+pub kind-here : (t s : List ℕ) (p b : ℕ) → s ≡ slot t p → b ≡ mapBit t p → kindOf s b ≡ kindAt t p
+unfolding kindAt
+kind-here t s p b e q = ap (λ (l : List ℕ). kindOf l b) e ∙ ap (kindOf (slot t p)) q
 
 -- ---- a free place more in a run
-pub free-more : (t : List ℕ) (p q : ℕ) → ((i : ℕ) → p ≤ i → i < q → kindAt t i ≡ 16) → kindAt t q ≡ 16 → (i : ℕ) → p ≤ i → i < q + 1 → kindAt t i ≡ 16
+pub free-more : (t : List ℕ) (p q : ℕ) → ((i : ℕ) → p ≤ i → i < q → kindAt t i ≡ freeKind) → kindAt t q ≡ freeKind → (i : ℕ) → p ≤ i → i < q + 1 → kindAt t i ≡ freeKind
 free-more t p q f e i h l = go (eqb i q) refl
   where
-    go : (b : Bool) → eqb i q ≡ b → kindAt t i ≡ 16
+    go : (b : Bool) → eqb i q ≡ b → kindAt t i ≡ freeKind
     go true w = ap (kindAt t) (eqb-true i q w) ∙ e
     go false w = let n : i ≡ q → ⊥ = eqb-false i q w in f i h (omega arith)
 
--- ---- a kind that is neither a service nor 16
-pub above : (r k : ℕ) → r ≡ k → 16 ≤ r → (k ≡ 16 → ⊥) → 17 ≤ k
+-- ---- a kind that is neither a service nor free
+pub above : (r k : ℕ) → r ≡ k → services ≤ r → (k ≡ freeKind → ⊥) → brokenKind ≤ k
 above r k e h n = omega arith

@@ -25,8 +25,8 @@ use Rattle.table_rules.specs.Tally.{tallies, tally-held}
 
 -- every place, and how many are of each kind
 pub record Scanned (t : List ℕ) (ok : Bool) (counts : List ℕ) : Type 0 where
-  pub is : ok ≡ all (slotAtKept t) 128
-  pub told : ok ≡ true → counts ≡ tallies t 128
+  pub is : ok ≡ all (slotAtKept t) placesInAll
+  pub told : ok ≡ true → counts ≡ tallies t placesInAll
 
 -- ---- the check
 unfoldable pub tableAnswer : List ℕ → ℕ
@@ -55,11 +55,11 @@ module _ (t : List ℕ) where
   check-refused answer n counts rest left e h q = record { is = e ∙ q; fine = λ z. absurd (omega arith) }
 
   module _ (o : Octets t) (e : length t ≡ tableSize) where
-    pub check-places : all (slotAtKept t) 128 ≡ false → 2 ≡ tableAnswer t
+    pub check-places : all (slotAtKept t) placesInAll ≡ false → 2 ≡ tableAnswer t
     unfolding tableAnswer
     check-places k = eq _ _ _ _ e (no _ _ _ (rules-walk t o e ∙ sym (no _ _ _ k refl)) refl)
 
-    module _ (k : all (slotAtKept t) 128 ≡ true) where
+    module _ (k : all (slotAtKept t) placesInAll ≡ true) where
       kept : {b : Bool} → b ≡ tableShares (view t) → rules t ≡ b
       kept q = rules-walk t o e ∙ sym (yes _ _ _ k q)
 
@@ -68,7 +68,7 @@ module _ (t : List ℕ) where
       check-shares q = eq _ _ _ _ e (no _ _ _ (kept q) refl)
 
       -- the numbers counted are the table's: the dialogues that the code walks over, and what of the places is left
-      pub check-counted : (counts : List ℕ) → counts ≡ tallies t 128 → (s : ℕ) → s < services → getD counts s 0 ≡ held (view t .places) s
+      pub check-counted : (counts : List ℕ) → counts ≡ tallies t placesInAll → (s : ℕ) → s < services → getD counts s 0 ≡ held (view t .places) s
       check-counted counts c s h = ap (λ (l : List ℕ). getD l s 0) c ∙ tally-held t k s h
 
       -- every place is a service's or free

@@ -5,25 +5,26 @@ use mathlib.Core.List.{List}
 use Prim.Native.Nat.{ℕ, _+_, _*_, _-_, _≤_, _<_}
 use native.Mathlib.Omega.{arith}
 use lib.Dec.{eqb, ltb, leb}
-use borrow.Author.Tests.{lt-ltb, ne-eqb, ltb-true, ltb-false, le-leb, lt-leb}
+use borrow.Author.Tests.{lt-ltb, ne-eqb, eqb-true, eqb-false, ltb-true, ltb-false, le-leb, lt-leb}
 use lib.ListN.{length, getD, take, drop, length-take}
 use Rattle.laws.specs.If.{ifLt, ifEq, ifB, eq, ne, yes, no, was-ge, was-eq, was-yes, true-false}
 use Rattle.laws.specs.Lists.{zeros, every}
 use Rattle.paper.specs.declared.Invocation.{Invocation}
 use Rattle.paper.specs.declared.Reject.{Reject}
-use Rattle.paper.specs.Sizes.{services, mostWaiting}
+use Rattle.paper.specs.Sizes.{services, mostInvocations, mostRejects, mostWaiting}
 use Rattle.paper.specs.Invocations.{slotOf}
-use Rattle.paper.specs.Layout.{stateAt, serviceAt, waitingLengthAt, countAt, invocationBy, invocationsAt, rejectBy, rejectsAt, controlBy, placeBy, slot, mapBit}
+use Rattle.paper.specs.Dialogues.{dialogueActive}
+use Rattle.paper.specs.Layout.{stateAt, serviceAt, waitingLengthAt, countAt, firstInvocation, firstReject, waitingStart, invocationBy, invocationsAt, rejectBy, rejectsAt, controlBy, placeBy, slot, mapBit}
 use Rattle.table_laws.specs.Slots.{freeKept, usedKept, slotKept}
 use Rattle.table_laws.specs.Whole.{slotAtKept}
 use Rattle.paper.specs.Rules.{dialogueKept, peerKept, invocationKept, differs, invocationsKept, rejectKept, rejectZero, rejectsKept, waitingKept}
 
 -- the invocation at index i, and those from it on
 abbrev pub invocationNo : List ℕ → ℕ → Invocation
-invocationNo s i = invocationBy (getD s (12 + 2 * i) 0) (getD s (12 + 2 * i + 1) 0)
+invocationNo s i = invocationBy (getD s (firstInvocation + 2 * i) 0) (getD s (firstInvocation + 2 * i + 1) 0)
 
 abbrev pub invocationsFrom : ℕ → List ℕ → List Invocation
-invocationsFrom i s = invocationsAt (8 - i) (12 + 2 * i) s
+invocationsFrom i s = invocationsAt (mostInvocations - i) (firstInvocation + 2 * i) s
 
 unfoldable pub noneOpen : ℕ → List Invocation → Bool
 noneOpen id l = eqb (slotOf l id) (length l)
@@ -33,31 +34,32 @@ invocationAtKept s i = ifB (invocationKept (invocationNo s i)) (differs (invocat
 
 -- those from index n on are not in use
 pub record IdleFrom (n : ℕ) (s : List ℕ) : Type 0 where
-  pub few : n ≤ 8
-  pub zero : (i : ℕ) → i < 2 * (8 - n) → getD s (12 + 2 * n + i) 0 ≡ 0
+  pub few : n ≤ mostInvocations
+  pub zero : (i : ℕ) → i < 2 * (mostInvocations - n) → getD s (firstInvocation + 2 * n + i) 0 ≡ 0
 
 -- likewise the rejects, of which n wait
 abbrev pub rejectNo : List ℕ → ℕ → Reject
-rejectNo s i = rejectBy (getD s (28 + 2 * i) 0) (getD s (28 + 2 * i + 1) 0)
+rejectNo s i = rejectBy (getD s (firstReject + 2 * i) 0) (getD s (firstReject + 2 * i + 1) 0)
 
 abbrev pub rejectsFrom : ℕ → List ℕ → List Reject
-rejectsFrom i s = rejectsAt (8 - i) (28 + 2 * i) s
+rejectsFrom i s = rejectsAt (mostRejects - i) (firstReject + 2 * i) s
 
 unfoldable pub rejectAtKept : ℕ → ℕ → List ℕ → Bool
 rejectAtKept n i s = ifLt i n (rejectKept (rejectNo s i)) (rejectZero (rejectNo s i))
 
 -- n waiting octets, and zeros after them
 unfoldable pub octetsKept : ℕ → List ℕ → Bool
-octetsKept n s = ifB (zeros (drop (44 + n) s)) (waitingKept (take n (drop 44 s))) false
+octetsKept n s = ifB (zeros (drop (waitingStart + n) s)) (waitingKept (take n (drop waitingStart s))) false
 
 -- a dialogue's octets in two parts: the control record but its rejects; the rejects and the waiting octets
 unfoldable pub headKept : List ℕ → Bool
 headKept s =
-    ifLt 4 (getD s 3 0) false
-    (ifLt (getD s 4 0) 16 (ifB (peerKept (controlBy s)) (ifLt 8 (getD s 11 0) false (invocationsKept (invocationsFrom 0 s))) false) false)
+    ifLt dialogueActive (getD s stateAt 0) false
+    (ifLt (getD s serviceAt 0) services (ifB (peerKept (controlBy s)) (ifLt mostRejects (getD s countAt 0) false (invocationsKept (invocationsFrom 0 s))) false) false)
 
 unfoldable pub tailKept : List ℕ → Bool
-tailKept s = ifB (rejectsKept (getD s 11 0) (rejectsFrom 0 s)) (ifLt 240 (getD s 10 0) false (octetsKept (getD s 10 0) s)) false
+tailKept s =
+    ifB (rejectsKept (getD s countAt 0) (rejectsFrom 0 s)) (ifLt mostWaiting (getD s waitingLengthAt 0) false (octetsKept (getD s waitingLengthAt 0) s)) false
 
 -- not above is at most
 at-most : (a b : ℕ) → leb a b ≡ cond (ltb b a) false true
@@ -76,10 +78,10 @@ unfolding usedKept dialogueKept every placeBy headKept tailKept octetsKept ifLt 
 used-parts s bit =
     let n : ℕ = getD s waitingLengthAt 0 in
     ap (λ (b : Bool). ifEq bit 0 b false)
-    (rw (at-most (getD s stateAt 0) 4, at-most (getD s countAt 0) 8)
-    (go (ltb 4 (getD s stateAt 0)) (ltb (getD s serviceAt 0) 16) (peerKept (controlBy s)) (ltb 8 (getD s countAt 0)) (invocationsKept (invocationsFrom 0 s))
-    (rejectsKept (getD s countAt 0) (rejectsFrom 0 s)) (ltb 240 n) (zeros (drop (44 + n) s)) (leb (length (take n (drop 44 s))) 240) (waitingKept (take n (drop 44 s)))
-    (λ q. short-take n (drop 44 s) (ltb-false 240 n q))))
+    (rw (at-most (getD s stateAt 0) dialogueActive, at-most (getD s countAt 0) mostRejects)
+    (go (ltb dialogueActive (getD s stateAt 0)) (ltb (getD s serviceAt 0) services) (peerKept (controlBy s)) (ltb mostRejects (getD s countAt 0)) (invocationsKept (invocationsFrom 0 s))
+    (rejectsKept (getD s countAt 0) (rejectsFrom 0 s)) (ltb mostWaiting n) (zeros (drop (waitingStart + n) s)) (leb (length (take n (drop waitingStart s))) mostWaiting) (waitingKept (take n (drop waitingStart s)))
+    (λ q. short-take n (drop waitingStart s) (ltb-false mostWaiting n q))))
   where
     nothing : (n z : Bool) → cond n false (cond z false false) ≡ false
     nothing true z = refl
@@ -100,15 +102,21 @@ used-parts s bit =
     go false true true false true true false true l true h = ap (λ (x : Bool). cond x true false) (h refl)
     go false true true false true true false true l false h = ap (λ (x : Bool). cond x false false) (h refl)
 
--- A PLACE'S KIND: its service, 16 free, 17 where it breaks a rule
+-- A PLACE'S KIND: its service, or one of two numbers past the services, free and broken
+abbrev pub freeKind : ℕ
+freeKind = services
+
+abbrev pub brokenKind : ℕ
+brokenKind = services + 1
+
 unfoldable pub kindOf : List ℕ → ℕ → ℕ
-kindOf s bit = ifEq (getD s 3 0) 0 (ifB (freeKept s bit) 16 17) (ifB (usedKept s bit) (getD s 4 0) 17)
+kindOf s bit = ifEq (getD s stateAt 0) 0 (ifB (freeKept s bit) freeKind brokenKind) (ifB (usedKept s bit) (getD s serviceAt 0) brokenKind)
 
 unfoldable pub kindAt : List ℕ → ℕ → ℕ
 kindAt t p = kindOf (slot t p) (mapBit t p)
 
 -- what a used place's rules say of its octets
-pub used-service : (s : List ℕ) (bit : ℕ) → usedKept s bit ≡ true → getD s 4 0 < 16
+pub used-service : (s : List ℕ) (bit : ℕ) → usedKept s bit ≡ true → getD s serviceAt 0 < services
 unfolding usedKept placeBy dialogueKept every
 used-service s bit e =
     let a = was-ge _ _ _ _ (was-eq _ _ _ _ (sym e) true-false .1) true-false in
@@ -123,48 +131,57 @@ pub free-bit : (s : List ℕ) (bit : ℕ) → freeKept s bit ≡ true → bit �
 unfolding freeKept
 free-bit s bit e = was-eq _ _ _ _ (sym e) true-false .0
 
--- what a kind below 17 tells: free, or a service's
+-- what a kind below that of a broken place tells: free, or a service's
 pub record Kept (s : List ℕ) (bit kind : ℕ) : Type 0 where
-  pub free : getD s 3 0 ≡ 0 → (kind ≡ 16) × (bit ≡ 1)
-  pub used : (getD s 3 0 ≡ 0 → ⊥) → (kind ≡ getD s 4 0) × (bit ≡ 0) × (kind < 16)
+  pub free : getD s stateAt 0 ≡ 0 → (kind ≡ freeKind) × (bit ≡ 1)
+  pub used : (getD s stateAt 0 ≡ 0 → ⊥) → (kind ≡ getD s serviceAt 0) × (bit ≡ 0) × (kind < services)
 
-kind-kept : (s : List ℕ) (bit : ℕ) → slotKept s bit ≡ ltb (kindOf s bit) 17
+kind-kept : (s : List ℕ) (bit : ℕ) → slotKept s bit ≡ ltb (kindOf s bit) brokenKind
 unfolding kindOf ifEq ifB
-kind-kept s bit = go (eqb (getD s 3 0) 0) (freeKept s bit) (usedKept s bit) (used-service s bit)
+kind-kept s bit = go (eqb (getD s stateAt 0) 0) (freeKept s bit) (usedKept s bit) (used-service s bit)
   where
-    go : (z f u : Bool) → (u ≡ true → getD s 4 0 < 16) → cond z f u ≡ ltb (cond z (cond f 16 17) (cond u (getD s 4 0) 17)) 17
+    go : (z f u : Bool) → (u ≡ true → getD s serviceAt 0 < services) → cond z f u ≡ ltb (cond z (cond f freeKind brokenKind) (cond u (getD s serviceAt 0) brokenKind)) brokenKind
     go true true u h = refl
     go true false u h = refl
-    go false f true h = sym (lt-ltb (getD s 4 0) 17 (omega (arith, h refl)))
+    go false f true h = sym (lt-ltb (getD s serviceAt 0) brokenKind (omega (arith, h refl)))
     go false f false h = refl
 
--- free by its kind: a used one's is below 16, a broken one's 17
-pub kind-used : (s : List ℕ) (bit : ℕ) → (getD s 3 0 ≡ 0 → ⊥) → false ≡ eqb (kindOf s bit) 16
+-- free by its kind
+pub kind-used : (s : List ℕ) (bit : ℕ) → (getD s stateAt 0 ≡ 0 → ⊥) → false ≡ eqb (kindOf s bit) freeKind
 unfolding kindOf ifB
 kind-used s bit n =
-    sym (ap (λ (k : ℕ). eqb k 16) (sym (ne _ _ _ _ n refl)) ∙ go (usedKept s bit) (used-service s bit))
+    sym (ap (λ (k : ℕ). eqb k freeKind) (sym (ne _ _ _ _ n refl)) ∙ go (usedKept s bit) (used-service s bit))
   where
-    go : (u : Bool) → (u ≡ true → getD s 4 0 < 16) → eqb (cond u (getD s 4 0) 17) 16 ≡ false
-    go true h = ne-eqb (getD s 4 0) 16 (λ q. omega (arith, h refl, q))
+    go : (u : Bool) → (u ≡ true → getD s serviceAt 0 < services) → eqb (cond u (getD s serviceAt 0) brokenKind) freeKind ≡ false
+    go true h = ne-eqb (getD s serviceAt 0) freeKind (λ q. omega (arith, h refl, q))
     go false h = refl
 
-pub kind-free : (s : List ℕ) (bit : ℕ) → getD s 3 0 ≡ 0 → freeKept s bit ≡ eqb (kindOf s bit) 16
+pub kind-free : (s : List ℕ) (bit : ℕ) → getD s stateAt 0 ≡ 0 → freeKept s bit ≡ eqb (kindOf s bit) freeKind
 unfolding kindOf ifB
-kind-free s bit z = sym (ap (λ (k : ℕ). eqb k 16) (sym (eq _ _ _ _ z refl)) ∙ go (freeKept s bit))
+kind-free s bit z = sym (ap (λ (k : ℕ). eqb k freeKind) (sym (eq _ _ _ _ z refl)) ∙ go (freeKept s bit))
   where
-    go : (f : Bool) → eqb (cond f 16 17) 16 ≡ f
+    go : (f : Bool) → eqb (cond f freeKind brokenKind) freeKind ≡ f
     go true = refl
     go false = refl
 
-pub kind-broken : (s : List ℕ) (bit : ℕ) → getD s 3 0 ≡ 0 → (kindOf s bit ≡ 16 → ⊥) → 17 ≡ kindOf s bit
+pub kind-broken : (s : List ℕ) (bit : ℕ) → getD s stateAt 0 ≡ 0 → (kindOf s bit ≡ freeKind → ⊥) → brokenKind ≡ kindOf s bit
 unfolding kindOf
 kind-broken s bit z n = eq _ _ _ _ z (go (freeKept s bit) refl)
   where
-    go : (f : Bool) → freeKept s bit ≡ f → _≡_ {A = ℕ} 17 (ifB (freeKept s bit) 16 17)
+    go : (f : Bool) → freeKept s bit ≡ f → _≡_ {A = ℕ} brokenKind (ifB (freeKept s bit) freeKind brokenKind)
     go true q = absurd (n (sym (eq _ _ _ _ z (yes _ _ _ q refl))))
     go false q = no _ _ _ q refl
 
-pub place-kept : (t : List ℕ) (p : ℕ) → slotAtKept t p ≡ ltb (kindAt t p) 17
+-- one whose bit says free, and is not
+pub kind-marked : (s : List ℕ) (bit : ℕ) → (bit ≡ 0 → ⊥) → (kindOf s bit ≡ freeKind → ⊥) → brokenKind ≡ kindOf s bit
+unfolding kindOf usedKept
+kind-marked s bit m n = go (eqb (getD s stateAt 0) 0) refl
+  where
+    go : (b : Bool) → eqb (getD s stateAt 0) 0 ≡ b → brokenKind ≡ kindOf s bit
+    go true e = kind-broken s bit (eqb-true (getD s stateAt 0) 0 e) n
+    go false e = ne _ _ _ _ (eqb-false (getD s stateAt 0) 0 e) (no _ _ _ (sym (ne _ _ _ _ m refl)) refl)
+
+pub place-kept : (t : List ℕ) (p : ℕ) → slotAtKept t p ≡ ltb (kindAt t p) brokenKind
 unfolding slotAtKept kindAt
 place-kept t p = kind-kept (slot t p) (mapBit t p)
 
@@ -176,8 +193,8 @@ kept-told s bit e = record {
       (sym (eq _ _ _ _ z (yes _ _ _ f refl)), free-bit s bit f);
   used = λ n.
       let u : usedKept s bit ≡ true = ne _ _ _ _ n refl ∙ e in
-      let k : ifEq (getD s 3 0) 0 (ifB (freeKept s bit) 16 17) (ifB (usedKept s bit) (getD s 4 0) 17) ≡ getD s 4 0 = sym (ne _ _ _ _ n (yes _ _ _ u refl)) in
-      (k, used-bit s bit u, subst (λ (x : ℕ). x < 16) (sym k) (used-service s bit u));
+      let k : ifEq (getD s stateAt 0) 0 (ifB (freeKept s bit) freeKind brokenKind) (ifB (usedKept s bit) (getD s serviceAt 0) brokenKind) ≡ getD s serviceAt 0 = sym (ne _ _ _ _ n (yes _ _ _ u refl)) in
+      (k, used-bit s bit u, subst (λ (x : ℕ). x < services) (sym k) (used-service s bit u));
 }
 
 pub kept-at : (t : List ℕ) (p : ℕ) → slotAtKept t p ≡ true → Kept (slot t p) (mapBit t p) (kindAt t p)

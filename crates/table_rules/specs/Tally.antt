@@ -13,9 +13,10 @@ use Rattle.laws.specs.If.{ifEq, ifB, all, all-at, all-step, yes, no}
 use Rattle.laws.specs.Sums.{sum, sum-ext}
 use Rattle.laws.specs.Lists.{tab, at-tab, tab-set, tab-ext, sum-tab}
 use Rattle.paper.specs.Calls.{isFree, isOf, held}
-use Rattle.paper.specs.Layout.{placeBy, slot, view}
+use Rattle.paper.specs.Sizes.{placesInAll, services}
+use Rattle.paper.specs.Layout.{stateAt, serviceAt, placeBy, slot, view}
 use Rattle.table_laws.specs.Whole.{slotAtKept}
-use Rattle.table_rules.specs.Kinds.{kindAt, kept-at, place-kept}
+use Rattle.table_rules.specs.Kinds.{freeKind, brokenKind, kindAt, kept-at, place-kept}
 
 abbrev pub isKind : ℕ → ℕ → ℕ
 isKind a k = cond (eqb a k) 1 0
@@ -25,7 +26,7 @@ abbrev pub tally : List ℕ → ℕ → ℕ → ℕ
 tally t p k = sum (λ q. isKind (kindAt t q) k) p
 
 abbrev pub tallies : List ℕ → ℕ → List ℕ
-tallies t p = tab 16 0 (tally t p)
+tallies t p = tab services 0 (tally t p)
 
 kind-one : (a k : ℕ) → isKind a k ≤ 1
 kind-one a k = go (eqb a k)
@@ -44,26 +45,26 @@ tally-le : (t : List ℕ) (p k : ℕ) → tally t p k ≤ p
 tally-le t zero k = omega arith
 tally-le t (suc p) k = omega (arith, tally-le t p k, kind-one (kindAt t p) k)
 
-tallies-le : (t : List ℕ) (p k : ℕ) → k < 16 → getD (tallies t p) k 0 ≤ p
-tallies-le t p k h = subst (λ (n : ℕ). n ≤ p) (sym (at-tab 16 k (tally t p) 0 h)) (tally-le t p k)
+tallies-le : (t : List ℕ) (p k : ℕ) → k < services → getD (tallies t p) k 0 ≤ p
+tallies-le t p k h = subst (λ (n : ℕ). n ≤ p) (sym (at-tab services k (tally t p) 0 h)) (tally-le t p k)
 
 -- one place more, of kind k
-tallies-step : (t : List ℕ) (p k : ℕ) → k ≡ kindAt t p → k < 16 → set (tallies t p) k (getD (tallies t p) k 0 + 1) ≡ tallies t (p + 1)
+tallies-step : (t : List ℕ) (p k : ℕ) → k ≡ kindAt t p → k < services → set (tallies t p) k (getD (tallies t p) k 0 + 1) ≡ tallies t (p + 1)
 tallies-step t p k e h =
     let here : tally t (suc p) k ≡ getD (tallies t p) k 0 + 1 =
-    ap (λ (n : ℕ). tally t p k + n) (kind-hit (kindAt t p) k (sym e)) ∙ ap (λ (n : ℕ). n + 1) (sym (at-tab 16 k (tally t p) 0 h)) in
+    ap (λ (n : ℕ). tally t p k + n) (kind-hit (kindAt t p) k (sym e)) ∙ ap (λ (n : ℕ). n + 1) (sym (at-tab services k (tally t p) 0 h)) in
     ap (set (tallies t p) k) (sym here)
-    ∙ sym (tab-set 16 (tally t p) (tally t (suc p)) k h (λ j n. other j n) 0)
+    ∙ sym (tab-set services (tally t p) (tally t (suc p)) k h (λ j n. other j n) 0)
     ∙ ap (tallies t) (sym (add-one p))
   where
     other : (j : ℕ) → (j ≡ k → ⊥) → tally t (suc p) j ≡ tally t p j
     other j n = let z : isKind (kindAt t p) j ≡ 0 = kind-miss (kindAt t p) j (λ q. n (sym q ∙ sym e)) in omega (arith, z)
 
 -- a free one more
-tallies-free : (t : List ℕ) (p : ℕ) → kindAt t p ≡ 16 → tallies t p ≡ tallies t (p + 1)
-tallies-free t p e = tab-ext 16 (tally t p) (tally t (p + 1)) 0 (λ k h. same k h)
+tallies-free : (t : List ℕ) (p : ℕ) → kindAt t p ≡ freeKind → tallies t p ≡ tallies t (p + 1)
+tallies-free t p e = tab-ext services (tally t p) (tally t (p + 1)) 0 (λ k h. same k h)
   where
-    same : (k : ℕ) → k < 16 → tally t p k ≡ tally t (p + 1) k
+    same : (k : ℕ) → k < services → tally t p k ≡ tally t (p + 1) k
     same k h =
         let z : isKind (kindAt t p) k ≡ 0 = kind-miss (kindAt t p) k (λ q. omega (arith, e, q)) in
         let w : tally t p k ≡ tally t (suc p) k = omega (arith, z) in
@@ -72,24 +73,24 @@ tallies-free t p e = tab-ext 16 (tally t p) (tally t (p + 1)) 0 (λ k h. same k 
 -- ---- a run of free places, up to one that is not or that breaks a rule
 pub record FreeRun (t : List ℕ) (p r : ℕ) : Type 0 where
   pub start : p ≤ r
-  pub most : r ≤ 128
-  pub free : (q : ℕ) → p ≤ q → q < r → kindAt t q ≡ 16
-  pub end : r < 128 → kindAt t r ≡ 16 → ⊥
+  pub most : r ≤ placesInAll
+  pub free : (q : ℕ) → p ≤ q → q < r → kindAt t q ≡ freeKind
+  pub end : r < placesInAll → kindAt t r ≡ freeKind → ⊥
 
 -- every place below p keeps the rules and was counted; p is not free
 pub record Upto (t : List ℕ) (p : ℕ) (counts : List ℕ) : Type 0 where
-  pub most : p ≤ 128
+  pub most : p ≤ placesInAll
   pub keeps : all (slotAtKept t) p ≡ true
   pub counted : counts ≡ tallies t p
-  pub end : p < 128 → kindAt t p ≡ 16 → ⊥
+  pub end : p < placesInAll → kindAt t p ≡ freeKind → ⊥
 
-run-keeps : (t : List ℕ) (n p : ℕ) → ((q : ℕ) → p ≤ q → q < p + n → kindAt t q ≡ 16) → all (slotAtKept t) p ≡ true
+run-keeps : (t : List ℕ) (n p : ℕ) → ((q : ℕ) → p ≤ q → q < p + n → kindAt t q ≡ freeKind) → all (slotAtKept t) p ≡ true
     → (all (slotAtKept t) (p + n) ≡ true) × (tallies t p ≡ tallies t (p + n))
 run-keeps t zero p h k = (ap (all (slotAtKept t)) (add-zero p) ∙ k, ap (tallies t) (sym (add-zero p)))
 run-keeps t (suc n) p h k =
     let e : p + 1 + n ≡ p + suc n = omega arith in
-    let f : kindAt t p ≡ 16 = h p (omega arith) (omega arith) in
-    let r = run-keeps t n (p + 1) (λ q a b. h q (omega arith) (omega arith)) (all-step (slotAtKept t) p k (place-kept t p ∙ lt-ltb (kindAt t p) 17 (omega (arith, f)))) in
+    let f : kindAt t p ≡ freeKind = h p (omega arith) (omega arith) in
+    let r = run-keeps t n (p + 1) (λ q a b. h q (omega arith) (omega arith)) (all-step (slotAtKept t) p k (place-kept t p ∙ lt-ltb (kindAt t p) brokenKind (omega (arith, f)))) in
     (ap (all (slotAtKept t)) (sym e) ∙ r .0, tallies-free t p f ∙ r .1 ∙ ap (tallies t) e)
 
 run-upto : (t : List ℕ) (p r : ℕ) (counts : List ℕ) → all (slotAtKept t) p ≡ true → counts ≡ tallies t p → FreeRun t p r → Upto t r counts
@@ -103,46 +104,46 @@ run-upto t p r counts k c f =
       end = f .end;
     }
 
-pub upto-start : (t : List ℕ) (r : ℕ) → FreeRun t 0 r → Upto t r (replicate 16 0)
-upto-start t r f = run-upto t 0 r (replicate 16 0) refl refl f
+pub upto-start : (t : List ℕ) (r : ℕ) → FreeRun t 0 r → Upto t r (replicate services 0)
+upto-start t r f = run-upto t 0 r (replicate services 0) refl refl f
 
-pub upto-more : (t : List ℕ) (p r k : ℕ) (counts : List ℕ) → Upto t p counts → k ≡ kindAt t p → k < 16 → FreeRun t (p + 1) r
+pub upto-more : (t : List ℕ) (p r k : ℕ) (counts : List ℕ) → Upto t p counts → k ≡ kindAt t p → k < services → FreeRun t (p + 1) r
     → Upto t r (set counts k (getD counts k 0 + 1))
 upto-more t p r k counts u e h f =
     run-upto t (p + 1) r (set counts k (getD counts k 0 + 1))
-    (all-step (slotAtKept t) p (u .keeps) (place-kept t p ∙ lt-ltb (kindAt t p) 17 (omega (arith, e))))
+    (all-step (slotAtKept t) p (u .keeps) (place-kept t p ∙ lt-ltb (kindAt t p) brokenKind (omega (arith, e))))
     (ap (λ (l : List ℕ). set l k (getD l k 0 + 1)) (u .counted) ∙ tallies-step t p k e h) f
 
-pub upto-small : (t : List ℕ) (p k : ℕ) (counts : List ℕ) → Upto t p counts → k < 16 → getD counts k 0 ≤ 128
+pub upto-small : (t : List ℕ) (p k : ℕ) (counts : List ℕ) → Upto t p counts → k < services → getD counts k 0 ≤ placesInAll
 upto-small t p k counts u h =
     let e : getD counts k 0 ≡ getD (tallies t p) k 0 = ap (λ (l : List ℕ). getD l k 0) (u .counted) in
     omega (arith, e, tallies-le t p k h, u .most)
 
 -- ---- what a kind says of its place
-module _ (t : List ℕ) (keeps : all (slotAtKept t) 128 ≡ true) where
-  each : (q : ℕ) → q < 128 → slotAtKept t q ≡ true
-  each q h = all-at (slotAtKept t) 128 q keeps h
+module _ (t : List ℕ) (keeps : all (slotAtKept t) placesInAll ≡ true) where
+  each : (q : ℕ) → q < placesInAll → slotAtKept t q ≡ true
+  each q h = all-at (slotAtKept t) placesInAll q keeps h
 
-  kind-of-service : (s q : ℕ) → s < 16 → q < 128 → isKind (kindAt t q) s ≡ isOf s (placeBy (slot t q))
+  kind-of-service : (s q : ℕ) → s < services → q < placesInAll → isKind (kindAt t q) s ≡ isOf s (placeBy (slot t q))
   unfolding isOf isFree placeBy ifEq
-  kind-of-service s q h l = go (eqb (getD (slot t q) 3 0) 0) refl
+  kind-of-service s q h l = go (eqb (getD (slot t q) stateAt 0) 0) refl
     where
-      go : (b : Bool) → eqb (getD (slot t q) 3 0) 0 ≡ b
-          → isKind (kindAt t q) s ≡ ifB (eqb (getD (slot t q) 3 0) 0) 0 (ifEq (getD (slot t q) 4 0) s 1 0)
+      go : (b : Bool) → eqb (getD (slot t q) stateAt 0) 0 ≡ b
+          → isKind (kindAt t q) s ≡ ifB (eqb (getD (slot t q) stateAt 0) 0) 0 (ifEq (getD (slot t q) serviceAt 0) s 1 0)
       go true e =
-          let k = kept-at t q (each q l) .free (eqb-true (getD (slot t q) 3 0) 0 e) in
+          let k = kept-at t q (each q l) .free (eqb-true (getD (slot t q) stateAt 0) 0 e) in
           kind-miss (kindAt t q) s (λ w. omega (arith, k .0, w)) ∙ yes _ _ _ e refl
       go false e =
-          let k = kept-at t q (each q l) .used (eqb-false (getD (slot t q) 3 0) 0 e) in
-          ap (λ (a : ℕ). isKind a s) (k .0) ∙ is (getD (slot t q) 4 0) ∙ no _ _ _ e refl
+          let k = kept-at t q (each q l) .used (eqb-false (getD (slot t q) stateAt 0) 0 e) in
+          ap (λ (a : ℕ). isKind a s) (k .0) ∙ is (getD (slot t q) serviceAt 0) ∙ no _ _ _ e refl
         where
           is : (a : ℕ) → isKind a s ≡ ifEq a s 1 0
           is a = refl
 
   -- the code's count is the model's
-  pub tally-held : (s : ℕ) → s < 16 → getD (tallies t 128) s 0 ≡ held (view t .places) s
+  pub tally-held : (s : ℕ) → s < services → getD (tallies t placesInAll) s 0 ≡ held (view t .places) s
   unfolding view held
   tally-held s h =
-      at-tab 16 s (tally t 128) 0 h
-      ∙ sum-ext (λ q. isKind (kindAt t q) s) (λ q. isOf s (placeBy (slot t q))) 128 (λ q g. kind-of-service s q h g)
-      ∙ sym (sum-tab (isOf s) 128 (λ q. placeBy (slot t q)))
+      at-tab services s (tally t placesInAll) 0 h
+      ∙ sum-ext (λ q. isKind (kindAt t q) s) (λ q. isOf s (placeBy (slot t q))) placesInAll (λ q g. kind-of-service s q h g)
+      ∙ sym (sum-tab (isOf s) placesInAll (λ q. placeBy (slot t q)))

@@ -1,59 +1,61 @@
 // The table rules (01, "Answer numbers"): one pass over the 128 places, which counts them too, so that no call walks the table twice.
 // A run of zeros is an OR over all of it, which is quicker than leaving at the first octet that is not 0.
-use laws::number;
 use paper::DIALOGUE_ACTIVE;
 use paper::DIALOGUE_FREE;
 use paper::DIALOGUE_RECEIVED;
 use paper::GUARANTEES;
 use paper::IDLE;
 use paper::INVOCATIONS;
+use paper::Invocation;
 use paper::LIMITS;
+use paper::MOST_INVOCATIONS;
+use paper::MOST_REJECTS;
+use paper::MOST_WAITING;
 use paper::NO_FAULT;
-use paper::PEER;
-use paper::PEER_LENGTH;
 use paper::PLACE_OCTETS;
 use paper::PLACES;
 use paper::PLACES_IN_ALL;
 use paper::REJECTING;
 use paper::REJECTS;
-use paper::REJECTS_WAITING;
 use paper::SERVICE;
-use paper::STATE;
+use paper::SERVICES;
 use paper::TABLE_OCTETS;
 use paper::WAITING;
-use paper::WAITING_LENGTH;
 ghost use mathlib.Core.Path.{_≡_};
 ghost use mathlib.Core.Bool.{false};
-ghost use mathlib.Core.List.{[], _∷_};
-ghost use Prim.Native.Nat.{_≤_, _<_};
+ghost use Prim.Native.Nat.{_+_, _*_, _≤_, _<_};
 ghost use lib.Dec.{eqb};
 ghost use lib.ListN.{length, drop, getD};
 ghost use Rattle.laws.specs.Lists.{zeros};
+ghost use Rattle.paper.specs.Sizes.{placesInAll, mostRejects, mostWaiting};
 ghost use Rattle.paper.specs.Invocations.{isOpen};
-ghost use Rattle.paper.specs.Layout.{invocationBy, rejectBy, controlBy};
+ghost use Rattle.paper.specs.Layout.{placeSize, tableSize, stateAt, invocationBy, rejectBy, controlBy};
 ghost use Rattle.paper.specs.Dialogues.{hasPeer};
 ghost use Rattle.paper.specs.Rules.{invocationKept, invocationsKept, rejectKept, rejectsKept, peerKept, waitingKept};
 ghost use Rattle.table_laws.specs.Slots.{freeKept, usedKept};
-ghost use Rattle.table_rules.specs.Kinds.{invocationsFrom, noneOpen, invocationAtKept, IdleFrom, rejectsFrom, rejectAtKept, octetsKept, headKept, tailKept, kindOf};
+ghost use Rattle.table_rules.specs.Kinds.{invocationsFrom, noneOpen, invocationAtKept, IdleFrom, rejectsFrom, rejectAtKept, octetsKept, headKept, tailKept, freeKind, kindAt};
 ghost use Rattle.table_rules.specs.Tally.{FreeRun};
 ghost use Rattle.table_rules.specs.Checking.{Scanned, CheckTold};
 
-// The peer's ID after its first octet; the octets of the invocations after the first, and of the last four; of the last four rejects.
-const PEER_SECOND: usize = PEER + 1;
+// A word has eight octets: four invocations, or four rejects.
+const WORD: usize = 8;
 
-const PEER_THIRD: usize = PEER + 2;
-
-const PEER_FOURTH: usize = PEER + 3;
-
+// The octets of the invocations after the first, and of the last four; of the last four rejects.
 const LATER_INVOCATIONS: usize = INVOCATIONS + 2;
 
-const LAST_INVOCATIONS: usize = INVOCATIONS + 8;
+const LAST_INVOCATIONS: usize = INVOCATIONS + WORD;
 
-const LAST_REJECTS: usize = REJECTS + 8;
+const LAST_REJECTS: usize = REJECTS + WORD;
+
+// The kind of a place that breaks a rule; the others are the services, and SERVICES for a free place.
+const BROKEN: usize = SERVICES + 1;
+
+// How many places the services share.
+const SHARED: u32 = PLACES_IN_ALL as u32;
 
 // Whether a place's octets are all 0 from k on.
 fn zeros_from(rec: &[u8], k: usize) -> bool
-    requires { ⌜ (length (now rec) ≡ 284) × (k ≤ 284) ⌝ }
+    requires { ⌜ (length (now rec) ≡ placeSize) × (k ≤ placeSize) ⌝ }
     ensures { λ r. ⌜ r ≡ zeros (drop k (now (rec .entry))) ⌝ }
 {
     let mut acc: u8 = 0;
@@ -67,7 +69,7 @@ fn zeros_from(rec: &[u8], k: usize) -> bool
 
 // "a free place is all zero but its turn": its bit of the map is set, its state is 0.
 fn free_kept(rec: &[u8], bit: u8) -> bool
-    requires { ⌜ (length (now rec) ≡ 284) × (getD (now rec) 3 0 ≡ 0) ⌝ }
+    requires { ⌜ (length (now rec) ≡ placeSize) × (getD (now rec) stateAt 0 ≡ 0) ⌝ }
     ensures { λ r. ⌜ r ≡ freeKept (now (rec .entry)) bit ⌝ }
 {
     if bit != 1 {
@@ -85,7 +87,8 @@ fn free_kept(rec: &[u8], bit: u8) -> bool
     zeros_from(rec, REJECTS)
 }
 
-// "octets and invocations not in use are zero; states .. classes .. are in range": of one invocation, by its two octets.
+// "octets and invocations not in use are zero; states .. classes .. are in range": of one invocation, by its two octets, so that the
+// compiler tests an unused one at once.
 fn invocation_kept(id: u8, o: u8) -> bool
     ensures { λ r. ⌜ r ≡ invocationKept (invocationBy id o) ⌝ }
 {
@@ -109,27 +112,24 @@ fn invocation_kept(id: u8, o: u8) -> bool
     }
     o / 64 <= 1
 }
-
-// Whether an invocation, by its two octets, is open with that ID.
-fn is_open(id: u8, o: u8, wanted: u8) -> bool
-    ensures { λ r. ⌜ r ≡ isOpen wanted (invocationBy id o) ⌝ }
+// Whether an invocation is open with that ID.
+fn is_open(v: Invocation, wanted: u8) -> bool
+    ensures { λ r. ⌜ r ≡ isOpen wanted v ⌝ }
 {
-    if o % 8 == IDLE {
+    if v.state == IDLE {
         return false;
     }
-    id == wanted
+    v.id == wanted
 }
 
 // "invoke IDs within a dialogue differ": no invocation from the i-th on is open with that ID. From the n-th on none is open.
 fn unused_from(rec: &[u8], id: u8, i: usize, n: usize) -> bool
-    requires { ⌜ (length (now rec) ≡ 284) × (i ≤ n) × IdleFrom n (now rec) ⌝ }
+    requires { ⌜ (length (now rec) ≡ placeSize) × (i ≤ n) × IdleFrom n (now rec) ⌝ }
     ensures { λ r. ⌜ r ≡ noneOpen id (invocationsFrom i (now (rec .entry))) ⌝ }
 {
     let mut k = i;
     while k < n {
-        let a = INVOCATIONS + 2 * k;
-        let b = a + 1;
-        if is_open(rec[a], rec[b], id) {
+        if is_open(table_fields::invocation_at(rec, k), id) {
             return false;
         }
         k += 1;
@@ -139,7 +139,7 @@ fn unused_from(rec: &[u8], id: u8, i: usize, n: usize) -> bool
 
 // The i-th invocation keeps the rules, and no later one has its ID.
 fn invocation_at_kept(rec: &[u8], i: usize, n: usize) -> bool
-    requires { ⌜ (length (now rec) ≡ 284) × (i < n) × IdleFrom n (now rec) ⌝ }
+    requires { ⌜ (length (now rec) ≡ placeSize) × (i < n) × IdleFrom n (now rec) ⌝ }
     ensures { λ r. ⌜ r ≡ invocationAtKept (now (rec .entry)) i ⌝ }
 {
     let a = INVOCATIONS + 2 * i;
@@ -157,7 +157,7 @@ fn invocation_at_kept(rec: &[u8], i: usize, n: usize) -> bool
 
 // Each of the n first invocations; from the n-th on none is open.
 fn each_invocation_kept(rec: &[u8], n: usize) -> bool
-    requires { ⌜ (length (now rec) ≡ 284) × IdleFrom n (now rec) ⌝ }
+    requires { ⌜ (length (now rec) ≡ placeSize) × IdleFrom n (now rec) ⌝ }
     ensures { λ r. ⌜ r ≡ invocationsKept (invocationsFrom 0 (now (rec .entry))) ⌝ }
 {
     let mut i: usize = 0;
@@ -173,11 +173,11 @@ fn each_invocation_kept(rec: &[u8], n: usize) -> bool
 
 // The eight invocations: two words show how many at the end are not open.
 fn invocations_kept(rec: &[u8]) -> bool
-    requires { ⌜ length (now rec) ≡ 284 ⌝ }
+    requires { ⌜ length (now rec) ≡ placeSize ⌝ }
     ensures { λ r. ⌜ r ≡ invocationsKept (invocationsFrom 0 (now (rec .entry))) ⌝ }
 {
     if table_map::word(rec, LAST_INVOCATIONS) != 0 {
-        return each_invocation_kept(rec, 8);
+        return each_invocation_kept(rec, MOST_INVOCATIONS);
     }
     if table_map::word(rec, LATER_INVOCATIONS) != 0 {
         return each_invocation_kept(rec, 4);
@@ -202,13 +202,12 @@ fn reject_kept(id: u8, o: u8) -> bool
     }
     kind == 0
 }
-
 // The i-th reject, of which n wait.
-fn reject_at_kept(rec: &[u8], n: u8, i: u8) -> bool
-    requires { ⌜ (length (now rec) ≡ 284) × (i < 8) ⌝ }
+fn reject_at_kept(rec: &[u8], n: usize, i: usize) -> bool
+    requires { ⌜ (length (now rec) ≡ placeSize) × (i < mostRejects) ⌝ }
     ensures { λ r. ⌜ r ≡ rejectAtKept n i (now (rec .entry)) ⌝ }
 {
-    let a = REJECTS + 2 * (i as usize);
+    let a = REJECTS + 2 * i;
     let b = a + 1;
     let id = rec[a];
     let o = rec[b];
@@ -222,12 +221,12 @@ fn reject_at_kept(rec: &[u8], n: u8, i: u8) -> bool
 }
 
 // Each of the eight rejects, of which n wait.
-fn each_reject_kept(rec: &[u8], n: u8) -> bool
-    requires { ⌜ length (now rec) ≡ 284 ⌝ }
+fn each_reject_kept(rec: &[u8], n: usize) -> bool
+    requires { ⌜ length (now rec) ≡ placeSize ⌝ }
     ensures { λ r. ⌜ r ≡ rejectsKept n (rejectsFrom 0 (now (rec .entry))) ⌝ }
 {
-    let mut i: u8 = 0;
-    while i < 8 {
+    let mut i: usize = 0;
+    while i < MOST_REJECTS {
         if reject_at_kept(rec, n, i) {
             i += 1;
         } else {
@@ -238,8 +237,8 @@ fn each_reject_kept(rec: &[u8], n: u8) -> bool
 }
 
 // The eight rejects, of which n wait; where none does, two words say so.
-fn rejects_kept(rec: &[u8], n: u8) -> bool
-    requires { ⌜ length (now rec) ≡ 284 ⌝ }
+fn rejects_kept(rec: &[u8], n: usize) -> bool
+    requires { ⌜ length (now rec) ≡ placeSize ⌝ }
     ensures { λ r. ⌜ r ≡ rejectsKept n (rejectsFrom 0 (now (rec .entry))) ⌝ }
 {
     if n == 0 {
@@ -252,66 +251,21 @@ fn rejects_kept(rec: &[u8], n: u8) -> bool
     each_reject_kept(rec, n)
 }
 
-// Whether the octets of a peer's ID past its n are 0.
-fn past_zero(n: u8, a: u8, b: u8, c: u8, d: u8) -> bool
-    requires { ⌜ n ≤ 4 ⌝ }
-    ensures { λ r. ⌜ r ≡ zeros (drop n (a ∷ b ∷ c ∷ d ∷ [])) ⌝ }
+// Four octets as a number, low first, and that they are octets.
+fn number_of(a: u8, b: u8, c: u8, d: u8) -> u64
+    ensures is { λ r. ⌜ r ≡ a + b * 256 + c * 65536 + d * 16777216 ⌝ }
+    ensures small { λ r. ⌜ (a < 256) × (b < 256) × (c < 256) × (d < 256) ⌝ }
 {
-    if n == 4 {
-        return true;
-    }
-    if d != 0 {
-        return false;
-    }
-    if n == 3 {
-        return true;
-    }
-    if c != 0 {
-        return false;
-    }
-    if n == 2 {
-        return true;
-    }
-    if b != 0 {
-        return false;
-    }
-    if n == 1 {
-        return true;
-    }
-    a == 0
+    (a as u64) + (b as u64) * 256 + (c as u64) * 65536 + (d as u64) * 16777216
 }
 
-// "a peer ID has 1 to 4 octets in Received and Active and none in Open and Sent"
-fn peer_kept(rec: &[u8]) -> bool
-    requires { ⌜ length (now rec) ≡ 284 ⌝ }
-    ensures { λ r. ⌜ r ≡ peerKept (controlBy (now (rec .entry))) ⌝ }
+// Whether the octets of a peer's ID past its n are 0: as one number, of which the n first are shifted out.
+fn past_zero(peer: [u8; 4], n: u8) -> bool
+    requires { ⌜ n ≤ 4 ⌝ }
+    ensures { λ r. ⌜ r ≡ zeros (drop n peer) ⌝ }
 {
-    let n = rec[PEER_LENGTH];
-    if has_peer(rec[STATE]) {
-        if n < 1 {
-            return false;
-        }
-        if n > 4 {
-            return false;
-        }
-        return past_zero(
-            n,
-            rec[PEER],
-            rec[PEER_SECOND],
-            rec[PEER_THIRD],
-            rec[PEER_FOURTH],
-        );
-    }
-    if n != 0 {
-        return false;
-    }
-    past_zero(
-        0,
-        rec[PEER],
-        rec[PEER_SECOND],
-        rec[PEER_THIRD],
-        rec[PEER_FOURTH],
-    )
+    let w = number_of(peer[0], peer[1], peer[2], peer[3]);
+    w >> (n * 8) == 0
 }
 
 fn has_peer(state: u8) -> bool
@@ -323,19 +277,41 @@ fn has_peer(state: u8) -> bool
     state == DIALOGUE_ACTIVE
 }
 
-// A dialogue's control record but its rejects: "states, services .. and lengths are in range".
-fn head_kept(rec: &[u8]) -> bool
-    requires { ⌜ length (now rec) ≡ 284 ⌝ }
-    ensures { λ r. ⌜ r ≡ headKept (now (rec .entry)) ⌝ }
+// "a peer ID has 1 to 4 octets in Received and Active and none in Open and Sent"
+fn peer_kept(rec: &[u8]) -> bool
+    requires { ⌜ length (now rec) ≡ placeSize ⌝ }
+    ensures { λ r. ⌜ r ≡ peerKept (controlBy (now (rec .entry))) ⌝ }
 {
-    if rec[STATE] > DIALOGUE_ACTIVE {
+    let n = table_fields::peer_length(rec);
+    let peer = table_fields::peer(rec);
+    if has_peer(table_fields::state(rec)) {
+        if n < 1 {
+            return false;
+        }
+        if n > 4 {
+            return false;
+        }
+        return past_zero(peer, n);
+    }
+    if n != 0 {
         return false;
     }
-    if rec[SERVICE] >= 16 {
+    past_zero(peer, 0)
+}
+
+// A dialogue's control record but its rejects: "states, services .. and lengths are in range".
+fn head_kept(rec: &[u8]) -> bool
+    requires { ⌜ length (now rec) ≡ placeSize ⌝ }
+    ensures { λ r. ⌜ r ≡ headKept (now (rec .entry)) ⌝ }
+{
+    if table_fields::state(rec) > DIALOGUE_ACTIVE {
+        return false;
+    }
+    if (table_fields::service(rec) as usize) >= SERVICES {
         return false;
     }
     if peer_kept(rec) {
-        if rec[REJECTS_WAITING] > 8 {
+        if (table_fields::rejects_waiting(rec) as usize) > MOST_REJECTS {
             return false;
         }
         return invocations_kept(rec);
@@ -365,14 +341,14 @@ fn waiting_kept(w: &[u8]) -> bool
 }
 
 // What waits at a place with n waiting octets, and the zeros after it.
-fn octets_kept(rec: &[u8], n: u8) -> bool
-    requires { ⌜ (length (now rec) ≡ 284) × (n ≤ 240) ⌝ }
+fn octets_kept(rec: &[u8], n: usize) -> bool
+    requires { ⌜ (length (now rec) ≡ placeSize) × (n ≤ mostWaiting) ⌝ }
     ensures { λ r. ⌜ r ≡ octetsKept n (now (rec .entry)) ⌝ }
 {
     if n == 0 {
         return zeros_from(rec, WAITING);
     }
-    let e = WAITING + (n as usize);
+    let e = WAITING + n;
     if zeros_from(rec, e) {
         return waiting_kept(&rec[WAITING..e]);
     }
@@ -381,18 +357,18 @@ fn octets_kept(rec: &[u8], n: u8) -> bool
 
 // Its rejects and its waiting octets; where it has neither, one run of zeros.
 fn tail_kept(rec: &[u8]) -> bool
-    requires { ⌜ length (now rec) ≡ 284 ⌝ }
+    requires { ⌜ length (now rec) ≡ placeSize ⌝ }
     ensures { λ r. ⌜ r ≡ tailKept (now (rec .entry)) ⌝ }
 {
-    let n = rec[WAITING_LENGTH];
-    let k = rec[REJECTS_WAITING];
+    let n = table_fields::waiting_length(rec) as usize;
+    let k = table_fields::rejects_waiting(rec) as usize;
     if n == 0 {
         if k == 0 {
             return zeros_from(rec, REJECTS);
         }
     }
     if rejects_kept(rec, k) {
-        if n > 240 {
+        if n > MOST_WAITING {
             return false;
         }
         return octets_kept(rec, n);
@@ -400,42 +376,38 @@ fn tail_kept(rec: &[u8]) -> bool
     false
 }
 
-// A place with a dialogue; its bit of the map is clear.
-fn used_kept(rec: &[u8], bit: u8) -> bool
-    requires { ⌜ length (now rec) ≡ 284 ⌝ }
-    ensures { λ r. ⌜ r ≡ usedKept (now (rec .entry)) bit ⌝ }
+// A place with a dialogue, whose bit of the map is clear.
+fn used_kept(rec: &[u8]) -> bool
+    requires { ⌜ length (now rec) ≡ placeSize ⌝ }
+    ensures { λ r. ⌜ r ≡ usedKept (now (rec .entry)) 0 ⌝ }
 {
-    if bit != 0 {
-        return false;
-    }
     if head_kept(rec) {
         return tail_kept(rec);
     }
     false
 }
 
-// Whether a place is free and keeps the rules.
-fn is_free(rec: &[u8], bit: u8) -> bool
-    requires { ⌜ length (now rec) ≡ 284 ⌝ }
-    ensures { λ r. ⌜ r ≡ eqb (kindOf (now (rec .entry)) bit) 16 ⌝ }
+// Whether place p is free and keeps the rules.
+fn is_free(t: &[u8], p: usize) -> bool
+    requires { ⌜ (length (now t) ≡ tableSize) × (p < placesInAll) ⌝ }
+    ensures { λ r. ⌜ r ≡ eqb (kindAt (now (t .entry)) p) freeKind ⌝ }
 {
-    if rec[STATE] != DIALOGUE_FREE {
+    let rec = table_fields::slot(t, p);
+    if table_fields::state(rec) != DIALOGUE_FREE {
         return false;
     }
+    let bit = table_map::bit_at(t, p);
     free_kept(rec, bit)
 }
 
 // The first place from p on that is not free or breaks a rule; 128 where there is none. A run of free places is the quickest to check.
 fn free_end(t: &[u8], p: usize) -> usize
-    requires { ⌜ (length (now t) ≡ 36400) × (p ≤ 128) ⌝ }
+    requires { ⌜ (length (now t) ≡ tableSize) × (p ≤ placesInAll) ⌝ }
     ensures { λ r. ⌜ FreeRun (now (t .entry)) p r ⌝ }
 {
     let mut q = p;
     while q < PLACES_IN_ALL {
-        let a = PLACES + q * PLACE_OCTETS;
-        let e = a + PLACE_OCTETS;
-        let b = table_map::bit_at(t, q);
-        if is_free(&t[a..e], b) {
+        if is_free(t, q) {
             q += 1;
         } else {
             return q;
@@ -444,45 +416,45 @@ fn free_end(t: &[u8], p: usize) -> usize
     q
 }
 
-// The kind of a place that is not free: its service, 17 where it breaks a rule.
-fn kind_of(rec: &[u8], bit: u8) -> u8
-    requires { ⌜ (length (now rec) ≡ 284) × (kindOf (now rec) bit ≡ 16 → ⊥) ⌝ }
-    ensures { λ r. ⌜ r ≡ kindOf (now (rec .entry)) bit ⌝ }
+// The kind of a place that is not free: its service, or BROKEN.
+fn kind_of(t: &[u8], p: usize) -> usize
+    requires { ⌜ (length (now t) ≡ tableSize) × (p < placesInAll) × (kindAt (now t) p ≡ freeKind → ⊥) ⌝ }
+    ensures { λ r. ⌜ r ≡ kindAt (now (t .entry)) p ⌝ }
 {
-    if rec[STATE] == DIALOGUE_FREE {
-        return 17;
+    let rec = table_fields::slot(t, p);
+    if table_map::bit_at(t, p) != 0 {
+        return BROKEN;
     }
-    if used_kept(rec, bit) {
-        return rec[SERVICE];
+    if table_fields::state(rec) == DIALOGUE_FREE {
+        return BROKEN;
     }
-    17
+    if used_kept(rec) {
+        return table_fields::service(rec) as usize;
+    }
+    BROKEN
 }
 
 pub struct Kinds {
     pub ok: bool,
-    pub counts: [u8; 16],
+    pub counts: [u8; SERVICES],
 }
 
 // Every place checked, and how many each service has.
 fn scan(t: &[u8]) -> Kinds
-    requires { ⌜ length (now t) ≡ 36400 ⌝ }
+    requires { ⌜ length (now t) ≡ tableSize ⌝ }
     ensures { λ r. ⌜ Scanned (now (t .entry)) (r .ok) (r .counts) ⌝ }
 {
-    let mut counts: [u8; 16] = [0; 16];
+    let mut counts: [u8; SERVICES] = [0; SERVICES];
     let mut p = free_end(t, 0);
     while p < PLACES_IN_ALL {
-        let a = PLACES + p * PLACE_OCTETS;
-        let e = a + PLACE_OCTETS;
-        let b = table_map::bit_at(t, p);
-        let k = kind_of(&t[a..e], b);
-        if k >= 16 {
+        let k = kind_of(t, p);
+        if k >= SERVICES {
             return Kinds {
                 ok: false,
                 counts: counts,
             };
         }
-        let i = k as usize;
-        counts[i] = counts[i] + 1;
+        counts[k] = counts[k] + 1;
         p = free_end(t, p + 1);
     }
     Kinds {
@@ -493,7 +465,7 @@ fn scan(t: &[u8]) -> Kinds
 
 pub struct Checked {
     pub answer: u32,
-    pub counts: [u8; 16],
+    pub counts: [u8; SERVICES],
     pub unused: u32,
     pub free: u32,
 }
@@ -503,7 +475,7 @@ fn refused(answer: u32) -> Checked
 {
     Checked {
         answer: answer,
-        counts: [0; 16],
+        counts: [0; SERVICES],
         unused: 0,
         free: 0,
     }
@@ -525,7 +497,7 @@ pub fn check(t: &[u8]) -> Checked
             &t[GUARANTEES..LIMITS],
             &t[LIMITS..PLACES],
             counts,
-            128,
+            SHARED,
             free,
         );
         let fair = shares.ok;

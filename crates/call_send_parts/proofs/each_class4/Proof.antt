@@ -5,7 +5,8 @@ use native.Mathlib.Omega.{arith}
 use lib.ListN.{length}
 use borrow.Author.Tests.{not-true, not-false}
 use Rattle.paper.specs.Dialogues.{ofClass4}
-use Rattle.call_send_parts.specs.Refused.{Rest, rest-start, rest-fails, rest-end, rest-more, class4-at, class4-sound}
+use Rattle.table_laws.specs.Following.{Rest, rest-start, rest-fails, rest-end, rest-more}
+use Rattle.call_send_parts.specs.Refused.{class4-at, class4-sound}
 use borrow.Author.Needs.{needs}
 use Rattle.call_send_parts.proofs.each_class4.Statement.{statement}
 use Rattle.call_send_parts.proofs.each_class4.Tie as tie

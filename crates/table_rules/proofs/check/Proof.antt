@@ -5,7 +5,8 @@ use Rattle.table_laws.specs.Counts.{walk-count}
 use Rattle.table_laws.specs.Whole.{slotAtKept}
 use Rattle.table_shares.specs.Telling.{parted-same}
 use Rattle.paper.specs.Calls.{dialogues}
-use Rattle.paper.specs.Layout.{view}
+use Rattle.paper.specs.Sizes.{placesInAll}
+use Rattle.paper.specs.Layout.{tableSize, view}
 use Rattle.laws.specs.If.{all}
 use lib.ListN.{length}
 use Prim.Native.Nat.{ℕ}
@@ -52,8 +53,8 @@ unfolding view
 shares-kept-requires c κs =
     let f = c .before .before .before .before in
     let t : List ℕ = f .before .before .before .before .args .t .now in
-    let e : length t ≡ 36400 = omega arith in
-    let k : all (slotAtKept t) 128 ≡ true = sym (f .before .scan .ensures .is) ∙ f .if2 .taken in
+    let e : length t ≡ tableSize = omega arith in
+    let k : all (slotAtKept t) placesInAll ≡ true = sym (f .before .scan .ensures .is) ∙ f .if2 .taken in
     let o : Octets t = λ i. omega (arith, f .before .before .before .shared-slice-known .given i) in (
       search needs,
       search needs,
@@ -66,10 +67,10 @@ returns-2 c =
     let n = c .before .before .before .before in
     let f = n .before .before in
     let t : List ℕ = f .before .before .before .before .args .t .now in
-    let e : length t ≡ 36400 = omega arith in
-    let k : all (slotAtKept t) 128 ≡ true = sym (f .before .scan .ensures .is) ∙ f .if2 .taken in
+    let e : length t ≡ tableSize = omega arith in
+    let k : all (slotAtKept t) placesInAll ≡ true = sym (f .before .scan .ensures .is) ∙ f .if2 .taken in
     let o : Octets t = λ i. omega (arith, f .before .before .before .shared-slice-known .given i) in
-    let counted : f .before .scan .result .counts ≡ tallies t 128 = f .before .scan .ensures .told (f .if2 .taken) in
+    let counted : f .before .scan .result .counts ≡ tallies t placesInAll = f .before .scan .ensures .told (f .if2 .taken) in
     let p = parted-same (dialogues (view t)) _ (check-counted t o e k _ counted) (c .before .shares-kept .ensures) in
     check-fine t o e k _ _ _ counted (n .free-count .ensures .0 ∙ walk-count t o e k)
     (record { is = sym (c .if3 .taken) ∙ p .is; told = λ q. p .told (c .if3 .taken) })
@@ -82,10 +83,10 @@ unfolding view
 returns-3 c =
     let f = c .before .before .before .before .before .before .before in
     let t : List ℕ = f .before .before .before .before .args .t .now in
-    let e : length t ≡ 36400 = omega arith in
-    let k : all (slotAtKept t) 128 ≡ true = sym (f .before .scan .ensures .is) ∙ f .if2 .taken in
+    let e : length t ≡ tableSize = omega arith in
+    let k : all (slotAtKept t) placesInAll ≡ true = sym (f .before .scan .ensures .is) ∙ f .if2 .taken in
     let o : Octets t = λ i. omega (arith, f .before .before .before .shared-slice-known .given i) in
-    let counted : f .before .scan .result .counts ≡ tallies t 128 = f .before .scan .ensures .told (f .if2 .taken) in
+    let counted : f .before .scan .result .counts ≡ tallies t placesInAll = f .before .scan .ensures .told (f .if2 .taken) in
     let p = parted-same (dialogues (view t)) _ (check-counted t o e k _ counted) (c .before .before .shares-kept .ensures) in
     check-refused t _ 2 _ _ _ (c .refused2 .ensures) (omega arith) (check-shares t o e k (sym (c .before .if3 .left) ∙ p .is))
 
@@ -95,7 +96,7 @@ refused-requires-3 c κs = search needs
 returns-4 : tie.Need-returns-4
 returns-4 c =
     let t : List ℕ = c .before .before .before .before .before .args .t .now in
-    let e : length t ≡ 36400 = omega arith in
+    let e : length t ≡ tableSize = omega arith in
     check-refused t _ 2 _ _ _ (c .refused3 .ensures) (omega arith)
     (check-places t (λ i. omega (arith, c .before .before .before .before .shared-slice-known .given i)) e (sym (c .before .before .scan .ensures .is) ∙ c .before .if2 .left))
 

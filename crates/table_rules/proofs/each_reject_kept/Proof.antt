@@ -1,5 +1,6 @@
 use native.Mathlib.Nat.{sub-zero}
 use Rattle.table_rules.proofs.Laws.{waits-step, waits-end}
+use Rattle.paper.specs.Sizes.{mostRejects}
 use Rattle.paper.specs.Rules.{rejectsKept}
 use Rattle.table_rules.specs.Kinds.{rejectsFrom}
 use Rattle.laws.specs.If.{yes, no}
@@ -11,10 +12,10 @@ use Rattle.table_rules.proofs.each_reject_kept.Statement.{statement}
 use Rattle.table_rules.proofs.each_reject_kept.Tie as tie
 
 abbrev Inv-loop : tie.InvT-loop
-Inv-loop rec n i₀ i = (i ≤ 8) × (rejectsKept n (rejectsFrom 0 rec) ≡ rejectsKept (n - i) (rejectsFrom i rec))
+Inv-loop rec n i₀ i = (i ≤ mostRejects) × (rejectsKept n (rejectsFrom 0 rec) ≡ rejectsKept (n - i) (rejectsFrom i rec))
 
 abbrev μ-loop : tie.MeasureT-loop
-μ-loop rec n i₀ i = 8 - i
+μ-loop rec n i₀ i = mostRejects - i
 
 loop-holds : tie.Need-loop-holds Inv-loop μ-loop
 loop-holds c =

@@ -5,16 +5,26 @@ use native.Mathlib.Omega.{arith}
 use borrow.Author.Needs.{needs}
 use Rattle.table_rules.proofs.head_kept.Statement.{statement}
 use Rattle.table_rules.proofs.head_kept.Tie as tie
+use Rattle.table_rules.proofs.head_kept.Reads as reads
+use Rattle.table_rules.proofs.head_kept.Lts as lts
+use Rattle.table_fields.proofs.rejects_waiting.Reads as rejects-waiting-reads
+use Rattle.table_fields.proofs.service.Reads as service-reads
+use Rattle.table_fields.proofs.state.Reads as state-reads
+use Rattle.table_rules.proofs.invocations_kept.Reads as invocations-kept-reads
+use Rattle.table_rules.proofs.peer_kept.Reads as peer-kept-reads
 
-shared-slice-read-if1 : tie.Need-shared-slice-read-if1
-shared-slice-read-if1 c = search needs
+state-requires : tie.Need-state-requires
+state-requires c κs = search needs
 
 returns : tie.Need-returns
 unfolding headKept
 returns c = lt _ _ _ _ (omega arith) refl
 
-shared-slice-read-if2 : tie.Need-shared-slice-read-if2
-shared-slice-read-if2 c = search needs
+service-requires : tie.Need-service-requires
+service-requires c κs = search needs
+
+cast-if2 : tie.Need-cast-if2
+cast-if2 c = search needs
 
 returns-2 : tie.Need-returns-2
 unfolding headKept
@@ -23,8 +33,11 @@ returns-2 c = ge _ _ _ _ (omega arith) (ge _ _ _ _ (omega arith) refl)
 peer-kept-requires : tie.Need-peer-kept-requires
 peer-kept-requires c κs = search needs
 
-shared-slice-read-if4 : tie.Need-shared-slice-read-if4
-shared-slice-read-if4 c = search needs
+rejects-waiting-requires : tie.Need-rejects-waiting-requires
+rejects-waiting-requires c κs = search needs
+
+cast-if4 : tie.Need-cast-if4
+cast-if4 c = search needs
 
 returns-3 : tie.Need-returns-3
 unfolding headKept
@@ -45,12 +58,14 @@ pub head-kept-spec : {M : Type 1} → statement M
 head-kept-spec =
     tie.close
     (tie.spec
-    shared-slice-read-if1
+    state-requires
     returns
-    shared-slice-read-if2
+    service-requires
+    cast-if2
     returns-2
     peer-kept-requires
-    shared-slice-read-if4
+    rejects-waiting-requires
+    cast-if4
     returns-3
     invocations-kept-requires
     returns-4

@@ -5,6 +5,10 @@ use mathlib.Core.Path.{refl, sym, _∙_}
 use borrow.Author.Needs.{needs}
 use Rattle.table_rules.proofs.octets_kept.Statement.{statement}
 use Rattle.table_rules.proofs.octets_kept.Tie as tie
+use Rattle.table_rules.proofs.octets_kept.Reads as reads
+use Rattle.table_rules.proofs.octets_kept.Lts as lts
+use Rattle.table_rules.proofs.waiting_kept.Reads as waiting-kept-reads
+use Rattle.table_rules.proofs.zeros_from.Reads as zeros-from-reads
 
 zeros-from-requires : tie.Need-zeros-from-requires
 zeros-from-requires c κs = search needs

@@ -1,50 +1,54 @@
-use mathlib.Core.List.{[], _∷_}
-use Rattle.table_rules.proofs.Laws.{run-spoilt, past-four, past-three, past-two, past-one, past-none}
+use Rattle.table_rules.proofs.Laws.{past-zero}
+use Prim.Native.Nat.{ℕ, _*_, _/_, _^_}
+use mathlib.Core.Path.{ap, _∙_}
 use native.Mathlib.Omega.{arith}
+use lib.Dec.{eqb}
+use borrow.Author.Needs.{needs}
 use Rattle.table_rules.proofs.past_zero.Statement.{statement}
 use Rattle.table_rules.proofs.past_zero.Tie as tie
+use Rattle.table_rules.proofs.past_zero.Reads as reads
+use Rattle.table_rules.proofs.past_zero.Lts as lts
+use Rattle.table_rules.proofs.number_of.Reads as number-of-reads
+
+array-read-number-of : tie.Need-array-read-number-of
+array-read-number-of c = search needs
+
+array-read-number-of-2 : tie.Need-array-read-number-of-2
+array-read-number-of-2 c = search needs
+
+array-read-number-of-3 : tie.Need-array-read-number-of-3
+array-read-number-of-3 c = search needs
+
+array-read-number-of-4 : tie.Need-array-read-number-of-4
+array-read-number-of-4 c = search needs
+
+number-of-requires : tie.Need-number-of-requires
+number-of-requires c κs = search needs
+
+mul-result : tie.Need-mul-result
+mul-result c = search needs
+
+cast-result : tie.Need-cast-result
+cast-result c = search needs
+
+shr-result : tie.Need-shr-result
+shr-result c = search needs
 
 returns : tie.Need-returns
 returns c =
     let a = c .before .args in
-    past-four (a .n) (a .a) (a .b) (a .c) (a .d) (omega arith)
-
-returns-2 : tie.Need-returns-2
-returns-2 c =
-    let a = c .before .before .args in
-    run-spoilt (a .a ∷ a .b ∷ a .c ∷ a .d ∷ []) (a .n) 3 (omega arith) (omega arith) (c .if2 .taken)
-
-returns-3 : tie.Need-returns-3
-returns-3 c =
-    let a = c .before .before .before .args in
-    past-three (a .n) (a .a) (a .b) (a .c) (a .d) (omega arith) (omega arith)
-
-returns-4 : tie.Need-returns-4
-returns-4 c =
-    let a = c .before .before .before .before .args in
-    run-spoilt (a .a ∷ a .b ∷ a .c ∷ a .d ∷ []) (a .n) 2 (omega arith) (omega arith) (c .if4 .taken)
-
-returns-5 : tie.Need-returns-5
-returns-5 c =
-    let a = c .before .before .before .before .before .args in
-    past-two (a .n) (a .a) (a .b) (a .c) (a .d) (omega arith) (omega arith) (omega arith)
-
-returns-6 : tie.Need-returns-6
-returns-6 c =
-    let a = c .before .before .before .before .before .before .args in
-    run-spoilt (a .a ∷ a .b ∷ a .c ∷ a .d ∷ []) (a .n) 1 (omega arith) (omega arith) (c .if6 .taken)
-
-returns-7 : tie.Need-returns-7
-returns-7 c =
-    let a = c .before .before .before .before .before .before .before .args in
-    past-one (a .n) (a .a) (a .b) (a .c) (a .d) (omega arith) (omega arith) (omega arith) (omega arith)
-
-returns-8 : tie.Need-returns-8
-returns-8 c =
-    let a = c .before .before .before .before .before .before .before .args in
-    past-none (a .n) (a .a) (a .b) (a .c) (a .d) (omega arith) (omega arith) (omega arith) (omega arith)
+    ap (λ (w : ℕ). eqb (w / 2 ^ (a .n * 8)) 0) (c .number-of .ensures .0) ∙ past-zero (a .t1) (omega arith) (c .number-of .ensures .1) (a .n) (omega arith)
 
 pub past-zero-spec : {M : Type 1} → statement M
 past-zero-spec =
     tie.close
-    (tie.spec returns returns-2 returns-3 returns-4 returns-5 returns-6 returns-7 returns-8)
+    (tie.spec
+    array-read-number-of
+    array-read-number-of-2
+    array-read-number-of-3
+    array-read-number-of-4
+    number-of-requires
+    mul-result
+    cast-result
+    shr-result
+    returns)

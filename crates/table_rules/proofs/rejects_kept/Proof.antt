@@ -1,4 +1,6 @@
 use Rattle.table_rules.proofs.Laws.{none-waiting, words-zero}
+use Rattle.paper.specs.Sizes.{mostRejects}
+use Rattle.paper.specs.Layout.{firstReject}
 use Rattle.paper.specs.Rules.{rejectsKept}
 use Rattle.table_rules.specs.Kinds.{rejectsFrom}
 use Prim.Native.Nat.{ℕ}
@@ -18,7 +20,7 @@ returns : tie.Need-returns
 returns c =
     let a = c .before .before .before .before .before .before .args in
     let s : List ℕ = a .rec .now in
-    none-waiting s 8 28 (λ i h. words-zero s 28 (sym (c .before .before .before .word .ensures) ∙ c .before .before .if2 .taken) (sym (c .before .word2 .ensures) ∙ c .if3 .taken) i h)
+    none-waiting s mostRejects firstReject (λ i h. words-zero s firstReject (sym (c .before .before .before .word .ensures) ∙ c .before .before .if2 .taken) (sym (c .before .word2 .ensures) ∙ c .if3 .taken) i h)
     ∙ ap (λ (k : ℕ). rejectsKept k (rejectsFrom 0 s)) (sym (c .before .before .before .before .if1 .taken))
 
 each-reject-kept-requires : tie.Need-each-reject-kept-requires

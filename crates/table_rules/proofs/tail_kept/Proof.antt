@@ -6,12 +6,25 @@ use native.Mathlib.Omega.{arith}
 use borrow.Author.Needs.{needs}
 use Rattle.table_rules.proofs.tail_kept.Statement.{statement}
 use Rattle.table_rules.proofs.tail_kept.Tie as tie
+use Rattle.table_rules.proofs.tail_kept.Reads as reads
+use Rattle.table_rules.proofs.tail_kept.Lts as lts
+use Rattle.table_fields.proofs.rejects_waiting.Reads as rejects-waiting-reads
+use Rattle.table_fields.proofs.waiting_length.Reads as waiting-length-reads
+use Rattle.table_rules.proofs.octets_kept.Reads as octets-kept-reads
+use Rattle.table_rules.proofs.rejects_kept.Reads as rejects-kept-reads
+use Rattle.table_rules.proofs.zeros_from.Reads as zeros-from-reads
 
-shared-slice-read-n : tie.Need-shared-slice-read-n
-shared-slice-read-n c = search needs
+waiting-length-requires : tie.Need-waiting-length-requires
+waiting-length-requires c κs = search needs
 
-shared-slice-read-k : tie.Need-shared-slice-read-k
-shared-slice-read-k c = search needs
+cast-n : tie.Need-cast-n
+cast-n c = search needs
+
+rejects-waiting-requires : tie.Need-rejects-waiting-requires
+rejects-waiting-requires c κs = search needs
+
+cast-k : tie.Need-cast-k
+cast-k c = search needs
 
 zeros-from-requires : tie.Need-zeros-from-requires
 zeros-from-requires c κs = search needs
@@ -33,7 +46,7 @@ octets-kept-requires c κs = search needs
 
 returns-3 : tie.Need-returns-3
 unfolding tailKept
-returns-3 c = yes _ _ _ (cc) (ge _ _ _ _ (omega arith) (c .octets-kept .ensures))
+returns-3 c = yes _ _ _ (cc) (ge _ _ _ _ (omega arith) (cc))
 
 returns-4 : tie.Need-returns-4
 unfolding tailKept
@@ -43,8 +56,10 @@ pub tail-kept-spec : {M : Type 1} → statement M
 tail-kept-spec =
     tie.close
     (tie.spec
-    shared-slice-read-n
-    shared-slice-read-k
+    waiting-length-requires
+    cast-n
+    rejects-waiting-requires
+    cast-k
     zeros-from-requires
     returns
     rejects-kept-requires

@@ -1,4 +1,5 @@
 use Rattle.table_rules.proofs.Laws.{run-step, run-none, or-if, if-first, if-last}
+use Rattle.paper.specs.Layout.{placeSize}
 use Rattle.laws.specs.Lists.{zeros}
 use Rattle.laws.specs.If.{ifEq}
 use lib.ListN.{length, getD, drop}
@@ -12,10 +13,10 @@ use Rattle.table_rules.proofs.zeros_from.Statement.{statement}
 use Rattle.table_rules.proofs.zeros_from.Tie as tie
 
 abbrev Inv-loop : tie.InvT-loop
-Inv-loop rec k acc₀ i₀ acc i = (i ≤ 284) × (zeros (drop k rec) ≡ ifEq acc 0 (zeros (drop i rec)) false)
+Inv-loop rec k acc₀ i₀ acc i = (i ≤ placeSize) × (zeros (drop k rec) ≡ ifEq acc 0 (zeros (drop i rec)) false)
 
 abbrev μ-loop : tie.MeasureT-loop
-μ-loop rec k acc₀ i₀ acc i = 284 - i
+μ-loop rec k acc₀ i₀ acc i = placeSize - i
 
 loop-holds : tie.Need-loop-holds Inv-loop μ-loop
 loop-holds c = (search needs, if-first (zeros (drop (c .args .k) (c .args .rec .now))))
