@@ -1,7 +1,7 @@
 -- Lists made of a function, their sums; padding, runs of zeros, the first that passes a test. Assumes nothing.
 use mathlib.Core.Path.{_≡_, refl, sym, ap, _∙_}
 use mathlib.Core.List.{List, [], _∷_, _++_, map, append-nil}
-use mathlib.Core.Bool.{Bool, true, false}
+use mathlib.Core.Bool.{Bool, true, false, cond}
 use Prim.Native.Nat.{ℕ, zero, suc, _+_, _-_, _≤_, _<_}
 use native.Mathlib.Omega.{arith}
 use native.Mathlib.Nat.{not-suc-le-zero, le-of-suc-le-suc, zero-add, suc-add, add-suc, add-zero}
@@ -32,6 +32,16 @@ firstAt f (x ∷ l) = ifB (f x) 0 (suc (firstAt f l))
 unfoldable pub every : {A : Type 0} → (A → Bool) → List A → Bool
 every f [] = true
 every f (x ∷ l) = ifB (f x) (every f l) false
+
+pub every-split : {A : Type 0} (f : A → Bool) (k : ℕ) (l : List A) → every f l ≡ ifB (every f (take k l)) (every f (drop k l)) false
+unfolding every ifB
+every-split f zero l = refl
+every-split f (suc k) [] = refl
+every-split f (suc k) (x ∷ l) = go (f x) _ _ _ (every-split f k l)
+  where
+    go : (b p q r : Bool) → p ≡ cond q r false → cond b p false ≡ cond (cond b q false) r false
+    go true p q r e = e
+    go false p q r e = refl
 
 module _ {A : Type 0} where
   pub length-none : (l : List A) → length l ≡ 0 → [] ≡ l

@@ -8,7 +8,7 @@ use lib.Dec.{eqb, ltb, leb}
 use borrow.Author.Tests.{lt-ltb, ne-eqb, eqb-true, eqb-false, ltb-true, ltb-false, le-leb, lt-leb}
 use lib.ListN.{length, getD, take, drop, length-take}
 use Rattle.laws.specs.If.{ifLt, ifEq, ifB, eq, ne, yes, no, was-ge, was-eq, was-yes, true-false}
-use Rattle.laws.specs.Lists.{zeros, every}
+use Rattle.laws.specs.Lists.{zeros, every, every-split}
 use Rattle.paper.specs.declared.Invocation.{Invocation}
 use Rattle.paper.specs.declared.Reject.{Reject}
 use Rattle.paper.specs.Sizes.{services, mostInvocations, mostRejects, mostWaiting}
@@ -17,7 +17,7 @@ use Rattle.paper.specs.Dialogues.{dialogueActive}
 use Rattle.paper.specs.Layout.{stateAt, serviceAt, waitingLengthAt, countAt, firstInvocation, firstReject, waitingStart, invocationBy, invocationsAt, rejectBy, rejectsAt, controlBy, placeBy, slot, mapBit}
 use Rattle.table_laws.specs.Slots.{freeKept, usedKept, slotKept}
 use Rattle.table_laws.specs.Whole.{slotAtKept}
-use Rattle.paper.specs.Rules.{dialogueKept, peerKept, invocationKept, differs, invocationsKept, rejectKept, rejectZero, rejectsKept, waitingKept}
+use Rattle.paper.specs.Rules.{dialogueRules, dialogueKept, peerKept, invocationKept, differs, invocationsKept, rejectKept, rejectZero, rejectsKept, waitingKept}
 
 -- the invocation at index i, and those from it on
 abbrev pub invocationNo : List ℕ → ℕ → Invocation
@@ -51,56 +51,45 @@ rejectAtKept n i s = ifLt i n (rejectKept (rejectNo s i)) (rejectZero (rejectNo 
 unfoldable pub octetsKept : ℕ → List ℕ → Bool
 octetsKept n s = ifB (zeros (drop (waitingStart + n) s)) (waitingKept (take n (drop waitingStart s))) false
 
--- a dialogue's octets in two parts: the control record but its rejects; the rejects and the waiting octets
+-- a dialogue's tests in two parts: so many of the list, of the control record but its rejects; those of the rejects and the waiting octets
+abbrev pub headRules : ℕ
+headRules = 5
+
 unfoldable pub headKept : List ℕ → Bool
-headKept s =
-    ifLt dialogueActive (getD s stateAt 0) false
-    (ifLt (getD s serviceAt 0) services (ifB (peerKept (controlBy s)) (ifLt mostRejects (getD s countAt 0) false (invocationsKept (invocationsFrom 0 s))) false) false)
+headKept s = every (λ r. r (placeBy s)) (take headRules dialogueRules)
 
 unfoldable pub tailKept : List ℕ → Bool
 tailKept s =
     ifB (rejectsKept (getD s countAt 0) (rejectsFrom 0 s)) (ifLt mostWaiting (getD s waitingLengthAt 0) false (octetsKept (getD s waitingLengthAt 0) s)) false
-
--- not above is at most
-at-most : (a b : ℕ) → leb a b ≡ cond (ltb b a) false true
-at-most a b = go (ltb b a) refl
-  where
-    go : (x : Bool) → ltb b a ≡ x → leb a b ≡ cond x false true
-    go true q = lt-leb a b (ltb-true b a q)
-    go false q = le-leb a b (ltb-false b a q)
 
 short-take : (n : ℕ) (l : List ℕ) → n ≤ mostWaiting → leb (length (take n l)) mostWaiting ≡ true
 short-take n l h = le-leb (length (take n l)) mostWaiting (simp length-take (omega arith))
 
 -- the tests of a dialogue in the code's order
 pub used-parts : (s : List ℕ) (bit : ℕ) → usedKept s bit ≡ ifEq bit 0 (ifB (headKept s) (tailKept s) false) false
-unfolding usedKept dialogueKept every placeBy headKept tailKept octetsKept ifLt ifB
+unfolding usedKept dialogueKept headKept every placeBy tailKept octetsKept ifLt ifB
 used-parts s bit =
     let n : ℕ = getD s waitingLengthAt 0 in
-    ap (λ (b : Bool). ifEq bit 0 b false)
-    (rw (at-most (getD s stateAt 0) dialogueActive, at-most (getD s countAt 0) mostRejects)
-    (go (ltb dialogueActive (getD s stateAt 0)) (ltb (getD s serviceAt 0) services) (peerKept (controlBy s)) (ltb mostRejects (getD s countAt 0)) (invocationsKept (invocationsFrom 0 s))
-    (rejectsKept (getD s countAt 0) (rejectsFrom 0 s)) (ltb mostWaiting n) (zeros (drop (waitingStart + n) s)) (leb (length (take n (drop waitingStart s))) mostWaiting) (waitingKept (take n (drop waitingStart s)))
-    (λ q. short-take n (drop waitingStart s) (ltb-false mostWaiting n q))))
+    let l : List ℕ = drop waitingStart s in
+    let k : dialogueKept (placeBy s) ≡ _ = every-split (λ r. r (placeBy s)) headRules dialogueRules in
+    ap (λ (b : Bool). ifEq bit 0 (cond (ltb mostWaiting n) false (cond (zeros (drop (waitingStart + n) s)) b false)) false) k
+    ∙ ap (λ (b : Bool). ifEq bit 0 b false)
+    (go (headKept s) (rejectsKept (getD s countAt 0) (rejectsFrom 0 s)) (ltb mostWaiting n) (zeros (drop (waitingStart + n) s)) (leb (length (take n l)) mostWaiting)
+    (waitingKept (take n l)) (λ q. short-take n l (ltb-false mostWaiting n q)))
   where
     nothing : (n z : Bool) → cond n false (cond z false false) ≡ false
     nothing true z = refl
     nothing false true = refl
     nothing false false = refl
 
-    go : (a b c d e f n z l w : Bool) → (n ≡ false → l ≡ true)
-        → cond n false (cond z (cond (cond a false true) (cond b (cond c (cond (cond d false true) (cond e (cond f (cond l (cond w true false) false) false) false) false) false) false) false) false)
-        ≡ cond (cond a false (cond b (cond c (cond d false e) false) false)) (cond f (cond n false (cond z w false)) false) false
-    go true b c d e f n z l w h = nothing n z
-    go false false c d e f n z l w h = nothing n z
-    go false true false d e f n z l w h = nothing n z
-    go false true true true e f n z l w h = nothing n z
-    go false true true false false f n z l w h = nothing n z
-    go false true true false true false n z l w h = nothing n z
-    go false true true false true true true z l w h = refl
-    go false true true false true true false false l w h = refl
-    go false true true false true true false true l true h = ap (λ (x : Bool). cond x true false) (h refl)
-    go false true true false true true false true l false h = ap (λ (x : Bool). cond x false false) (h refl)
+    go : (h f n z l w : Bool) → (n ≡ false → l ≡ true)
+        → cond n false (cond z (cond h (cond f (cond l (cond w true false) false) false) false) false) ≡ cond h (cond f (cond n false (cond z w false)) false) false
+    go false f n z l w e = nothing n z
+    go true false n z l w e = nothing n z
+    go true true true z l w e = refl
+    go true true false false l w e = refl
+    go true true false true l true e = ap (λ (x : Bool). cond x true false) (e refl)
+    go true true false true l false e = ap (λ (x : Bool). cond x false false) (e refl)
 
 -- A PLACE'S KIND: its service, or one of two numbers past the services, free and broken
 abbrev pub freeKind : ℕ

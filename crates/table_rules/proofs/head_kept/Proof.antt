@@ -1,6 +1,8 @@
 use Rattle.table_rules.specs.Kinds.{headKept}
-use Rattle.laws.specs.If.{lt, ge, yes, no}
-use mathlib.Core.Path.{refl}
+use Rattle.laws.specs.If.{yes, no, as-is, at-most, not-at-most, below, not-below}
+use Rattle.laws.specs.Lists.{every}
+use Rattle.paper.specs.Layout.{placeBy}
+use mathlib.Core.Path.{refl, _∙_}
 use native.Mathlib.Omega.{arith}
 use borrow.Author.Needs.{needs}
 use Rattle.table_rules.proofs.head_kept.Statement.{statement}
@@ -17,8 +19,8 @@ state-requires : tie.Need-state-requires
 state-requires c κs = search needs
 
 returns : tie.Need-returns
-unfolding headKept
-returns c = lt _ _ _ _ (omega arith) refl
+unfolding headKept every placeBy
+returns c = not-at-most _ _ _ _ (omega arith) refl
 
 service-requires : tie.Need-service-requires
 service-requires c κs = search needs
@@ -27,8 +29,8 @@ cast-if2 : tie.Need-cast-if2
 cast-if2 c = search needs
 
 returns-2 : tie.Need-returns-2
-unfolding headKept
-returns-2 c = ge _ _ _ _ (omega arith) (ge _ _ _ _ (omega arith) refl)
+unfolding headKept every placeBy
+returns-2 c = at-most _ _ _ _ (omega arith) (not-below _ _ _ _ (omega arith) refl)
 
 peer-kept-requires : tie.Need-peer-kept-requires
 peer-kept-requires c κs = search needs
@@ -40,19 +42,19 @@ cast-if4 : tie.Need-cast-if4
 cast-if4 c = search needs
 
 returns-3 : tie.Need-returns-3
-unfolding headKept
-returns-3 c = ge _ _ _ _ (omega arith) (lt _ _ _ _ (omega arith) (yes _ _ _ (cc) (lt _ _ _ _ (omega arith) refl)))
+unfolding headKept every placeBy
+returns-3 c = at-most _ _ _ _ (omega arith) (below _ _ _ _ (omega arith) (yes _ _ _ (cc) (not-at-most _ _ _ _ (omega arith) refl)))
 
 invocations-kept-requires : tie.Need-invocations-kept-requires
 invocations-kept-requires c κs = search needs
 
 returns-4 : tie.Need-returns-4
-unfolding headKept
-returns-4 c = ge _ _ _ _ (omega arith) (lt _ _ _ _ (omega arith) (yes _ _ _ (cc) (ge _ _ _ _ (omega arith) (c .invocations-kept .ensures))))
+unfolding headKept every placeBy
+returns-4 c = at-most _ _ _ _ (omega arith) (below _ _ _ _ (omega arith) (yes _ _ _ (cc) (at-most _ _ _ _ (omega arith) (c .invocations-kept .ensures ∙ as-is _))))
 
 returns-5 : tie.Need-returns-5
-unfolding headKept
-returns-5 c = ge _ _ _ _ (omega arith) (lt _ _ _ _ (omega arith) (no _ _ _ (cc) refl))
+unfolding headKept every placeBy
+returns-5 c = at-most _ _ _ _ (omega arith) (below _ _ _ _ (omega arith) (no _ _ _ (cc) refl))
 
 pub head-kept-spec : {M : Type 1} → statement M
 head-kept-spec =
