@@ -19,9 +19,9 @@ use Rattle.paper.specs.declared.Component.{Component}
 use Rattle.paper.specs.Components.{noFault, components, waitingItems}
 use Rattle.paper.specs.Problems.{problem, codeOf, senderOf, senderOfProblem, byLayer}
 use Rattle.paper.specs.Invocations.{isOpen, slotOf}
-use Rattle.paper.specs.Layout.{invocationBy, invocationsAt, rejectBy, rejectsAt, placeSize, stateAt, serviceAt, waitingLengthAt, countAt, firstInvocation, firstReject, waitingStart, slot, mapBit}
+use Rattle.paper.specs.Layout.{invocationBy, invocationsAt, rejectBy, rejectsAt, placeSize, stateAt, serviceAt, waitingLengthAt, countAt, firstInvocation, firstReject, waitingStart, slot}
 use Rattle.paper.specs.Rules.{invocationKept, differs, invocationsKept, rejectKept, rejectZero, rejectsKept, isSoundItem, waitingKept}
-use Rattle.table_rules.specs.Kinds.{invocationNo, invocationsFrom, IdleFrom, noneOpen, invocationAtKept, rejectNo, rejectsFrom, rejectAtKept, octetsKept, tailKept, freeKind, brokenKind, kindOf, kindAt}
+use Rattle.table_rules.specs.Kinds.{invocationNo, invocationsFrom, IdleFrom, noneOpen, invocationAtKept, rejectNo, rejectsFrom, rejectAtKept, octetsKept, tailKept, freeKind, brokenKind, kindOf, seenBit, kindAt}
 
 -- ---- an OR over a run
 or-zero : (a b : ℕ) → eqb (bitOr a b) 0 ≡ (eqb a 0 && eqb b 0)
@@ -415,7 +415,7 @@ tail-none s o e n k =
     ∙ ap (λ (m : ℕ). ifB (rejectsKept m (rejectsFrom 0 s)) (ifLt mostWaiting (getD s waitingLengthAt 0) false (octetsKept (getD s waitingLengthAt 0) s)) false) (sym k)
 
 -- ---- the kind of place p, by its octets and its bit
-pub kind-here : (t s : List ℕ) (p b : ℕ) → s ≡ slot t p → b ≡ mapBit t p → kindOf s b ≡ kindAt t p
+pub kind-here : (t s : List ℕ) (p b : ℕ) → s ≡ slot t p → b ≡ seenBit t p → kindOf s b ≡ kindAt t p
 unfolding kindAt
 kind-here t s p b e q = ap (λ (l : List ℕ). kindOf l b) e ∙ ap (kindOf (slot t p)) q
 
