@@ -8,7 +8,7 @@ use native.Mathlib.Numerals.{add-one}
 use native.Mathlib.Omega.{arith}
 use lib.Bits.{bitOr, or-zero-l, or-add-and, and-le-r}
 use lib.Dec.{eqb, ltb, eqb·suc-zero, eqb·suc-suc, eqb·zero-suc}
-use borrow.Author.Tests.{ne-eqb, eq-eqb, eqb-true, eqb-false, ltb-true, ltb-false, lt-ltb, le-ltb}
+use borrow.Author.Tests.{ne-eqb, eq-eqb, eqb-true, eqb-false, ltb-true, ltb-false}
 use lib.ListN.{length, getD, take, drop, drop-of-length-le}
 use lib.Seq.{drop-cons}
 use Rattle.laws.specs.If.{ifLt, ifEq, ifB, lt, ge, eq, ne, yes, no, was-eq, true-false}
@@ -19,9 +19,9 @@ use Rattle.paper.specs.declared.Component.{Component}
 use Rattle.paper.specs.Components.{noFault, components, waitingItems}
 use Rattle.paper.specs.Problems.{problem, codeOf, senderOf, senderOfProblem, byLayer}
 use Rattle.paper.specs.Invocations.{isOpen, slotOf}
-use Rattle.paper.specs.Layout.{invocationBy, invocationsAt, rejectBy, rejectsAt, placeSize, stateAt, serviceAt, waitingLengthAt, countAt, firstInvocation, firstReject, waitingStart, slot, mapBit}
+use Rattle.paper.specs.Layout.{invocationBy, invocationsAt, rejectBy, rejectsAt, placeSize, stateAt, serviceAt, waitingLengthAt, countAt, firstInvocation, firstReject, waitingStart, slot}
 use Rattle.paper.specs.Rules.{invocationKept, differs, invocationsKept, rejectKept, rejectZero, rejectsKept, isSoundItem, waitingKept}
-use Rattle.table_rules.specs.Kinds.{invocationNo, invocationsFrom, IdleFrom, noneOpen, invocationAtKept, rejectNo, rejectsFrom, rejectAtKept, octetsKept, tailKept, freeKind, brokenKind, kindOf, kindAt}
+use Rattle.table_rules.specs.Kinds.{invocationNo, invocationsFrom, IdleFrom, noneOpen, invocationAtKept, rejectNo, rejectsFrom, rejectAtKept, octetsKept, tailKept, freeKind, brokenKind, kindOf, seenBit, kindAt}
 
 -- ---- an OR over a run
 or-zero : (a b : ℕ) → eqb (bitOr a b) 0 ≡ (eqb a 0 && eqb b 0)
@@ -58,7 +58,7 @@ if-last a r e = ap (λ (x : Bool). cond (eqb a 0) x false) e ∙ go (eqb a 0)
     go false = refl
 
 -- ---- eight octets of a run by their word
-pub word-zero : (s : List ℕ) (a : ℕ) → wordAt s a ≡ 0 → (i : ℕ) → i < 8 → getD s (a + i) 0 ≡ 0
+word-zero : (s : List ℕ) (a : ℕ) → wordAt s a ≡ 0 → (i : ℕ) → i < 8 → getD s (a + i) 0 ≡ 0
 word-zero s a e zero h = ap (λ (k : ℕ). getD s k 0) (add-zero a) ∙ omega arith
 word-zero s a e (suc zero) h = omega arith
 word-zero s a e (suc (suc zero)) h = omega arith
@@ -70,7 +70,7 @@ word-zero s a e (suc (suc (suc (suc (suc (suc (suc zero))))))) h = omega arith
 word-zero s a e (suc (suc (suc (suc (suc (suc (suc (suc i)))))))) h = absurd (omega arith)
 
 -- octets that are 0 may be passed over
-pub run-pass : (s : List ℕ) (n a : ℕ) → a + n ≤ length s → ((i : ℕ) → i < n → getD s (a + i) 0 ≡ 0) → zeros (drop a s) ≡ zeros (drop (a + n) s)
+run-pass : (s : List ℕ) (n a : ℕ) → a + n ≤ length s → ((i : ℕ) → i < n → getD s (a + i) 0 ≡ 0) → zeros (drop a s) ≡ zeros (drop (a + n) s)
 run-pass s zero a h z = ap (λ (k : ℕ). zeros (drop k s)) (sym (add-zero a))
 run-pass s (suc n) a h z =
     let e : getD s a 0 ≡ 0 = ap (λ (k : ℕ). getD s k 0) (sym (add-zero a)) ∙ z 0 (omega arith) in
@@ -81,13 +81,13 @@ run-pass s (suc n) a h z =
     ∙ ap (λ (k : ℕ). zeros (drop k s)) q
 
 -- every octet of a run that passes is 0
-pub run-at : (s : List ℕ) (i a : ℕ) → a + i < length s → zeros (drop a s) ≡ true → getD s (a + i) 0 ≡ 0
+run-at : (s : List ℕ) (i a : ℕ) → a + i < length s → zeros (drop a s) ≡ true → getD s (a + i) 0 ≡ 0
 run-at s zero a h e = ap (λ (k : ℕ). getD s k 0) (add-zero a) ∙ was-eq _ _ _ _ (sym e ∙ run-step s a (omega arith)) true-false .0
 run-at s (suc i) a h e =
     let q : a + suc i ≡ a + 1 + i = omega arith in
     ap (λ (k : ℕ). getD s k 0) q ∙ run-at s i (a + 1) (omega arith) (sym (was-eq _ _ _ _ (sym e ∙ run-step s a (omega arith)) true-false .1))
 
-pub word-step : (s : List ℕ) (a : ℕ) → a + 8 ≤ length s → zeros (drop a s) ≡ ifEq (wordAt s a) 0 (zeros (drop (a + 8) s)) false
+word-step : (s : List ℕ) (a : ℕ) → a + 8 ≤ length s → zeros (drop a s) ≡ ifEq (wordAt s a) 0 (zeros (drop (a + 8) s)) false
 word-step s a h = go (eqb (wordAt s a) 0) refl
   where
     go : (b : Bool) → eqb (wordAt s a) 0 ≡ b → zeros (drop a s) ≡ ifEq (wordAt s a) 0 (zeros (drop (a + 8) s)) false
@@ -111,16 +111,6 @@ word-step s a h = go (eqb (wordAt s a) 0) refl
               run-at s 6 a (omega arith) q,
               run-at s 7 a (omega arith) q,
             )))
-
--- one that is not 0 spoils the run
-pub run-spoilt : (s : List ℕ) (a k : ℕ) → a ≤ k → k < length s → (getD s k 0 ≡ 0 → ⊥) → false ≡ zeros (drop a s)
-run-spoilt s a k h l n = go (zeros (drop a s)) refl
-  where
-    go : (r : Bool) → zeros (drop a s) ≡ r → false ≡ r
-    go false e = refl
-    go true e =
-        let q : a + (k - a) ≡ k = omega arith in
-        absurd (n (ap (λ (i : ℕ). getD s i 0) (sym q) ∙ run-at s (k - a) a (omega arith) e))
 
 -- ---- a peer's ID as one number: shifted by its octets, what is left is 0 where those past them are
 low-step : (x y : ℕ) → eqb (x + y * 256) 0 ≡ ifEq x 0 (eqb y 0) false
@@ -388,7 +378,7 @@ reject-run id o r h = go (eqb id 0) refl
         let n : id ≡ 0 → ⊥ = eqb-false id 0 e in
         ap (λ (t : Bool). ifB t r false) (sym (zero-not id o h n)) ∙ sym (no false r false refl refl) ∙ ne _ _ _ _ n refl
 
-pub rejects-run : (s : List ℕ) → ((i : ℕ) → getD s i 0 < 256) → (n a : ℕ) → a + 2 * n ≤ length s
+rejects-run : (s : List ℕ) → ((i : ℕ) → getD s i 0 < 256) → (n a : ℕ) → a + 2 * n ≤ length s
     → ifB (rejectsKept 0 (rejectsAt n a s)) (zeros (drop (a + 2 * n) s)) false ≡ zeros (drop a s)
 unfolding rejectsKept
 rejects-run s o zero a h =
@@ -415,7 +405,7 @@ tail-none s o e n k =
     ∙ ap (λ (m : ℕ). ifB (rejectsKept m (rejectsFrom 0 s)) (ifLt mostWaiting (getD s waitingLengthAt 0) false (octetsKept (getD s waitingLengthAt 0) s)) false) (sym k)
 
 -- ---- the kind of place p, by its octets and its bit
-pub kind-here : (t s : List ℕ) (p b : ℕ) → s ≡ slot t p → b ≡ mapBit t p → kindOf s b ≡ kindAt t p
+pub kind-here : (t s : List ℕ) (p b : ℕ) → s ≡ slot t p → b ≡ seenBit t p → kindOf s b ≡ kindAt t p
 unfolding kindAt
 kind-here t s p b e q = ap (λ (l : List ℕ). kindOf l b) e ∙ ap (kindOf (slot t p)) q
 

@@ -5,19 +5,18 @@ use mathlib.Core.List.{List}
 use Prim.Native.Nat.{ℕ, _+_, _*_, _-_, _≤_, _<_}
 use native.Mathlib.Omega.{arith}
 use lib.Dec.{eqb, ltb, leb}
-use borrow.Author.Tests.{lt-ltb, ne-eqb, eqb-true, eqb-false, ltb-true, ltb-false, le-leb, lt-leb}
+use borrow.Author.Tests.{lt-ltb, ne-eqb, eqb-true, eqb-false, ltb-true, ltb-false, le-leb}
 use lib.ListN.{length, getD, take, drop, length-take}
-use Rattle.laws.specs.If.{ifLt, ifEq, ifB, eq, ne, yes, no, was-ge, was-eq, was-yes, true-false}
+use Rattle.laws.specs.If.{ifLt, ifEq, ifB, eq, ne, yes, no, was-ge, was-eq, was-yes, by-eq, true-false}
 use Rattle.laws.specs.Lists.{zeros, every, every-split}
 use Rattle.paper.specs.declared.Invocation.{Invocation}
 use Rattle.paper.specs.declared.Reject.{Reject}
 use Rattle.paper.specs.Sizes.{services, mostInvocations, mostRejects, mostWaiting}
 use Rattle.paper.specs.Invocations.{slotOf}
-use Rattle.paper.specs.Dialogues.{dialogueActive}
-use Rattle.paper.specs.Layout.{stateAt, serviceAt, waitingLengthAt, countAt, firstInvocation, firstReject, waitingStart, invocationBy, invocationsAt, rejectBy, rejectsAt, controlBy, placeBy, slot, mapBit}
+use Rattle.paper.specs.Layout.{stateAt, serviceAt, waitingLengthAt, countAt, firstInvocation, firstReject, waitingStart, invocationBy, invocationsAt, rejectBy, rejectsAt, placeBy, slot, mapBit}
 use Rattle.table_laws.specs.Slots.{freeKept, usedKept, slotKept}
 use Rattle.table_laws.specs.Whole.{slotAtKept}
-use Rattle.paper.specs.Rules.{dialogueRules, dialogueKept, peerKept, invocationKept, differs, invocationsKept, rejectKept, rejectZero, rejectsKept, waitingKept}
+use Rattle.paper.specs.Rules.{dialogueRules, dialogueKept, invocationKept, differs, rejectKept, rejectZero, rejectsKept, waitingKept}
 
 -- the invocation at index i, and those from it on
 abbrev pub invocationNo : List ℕ → ℕ → Invocation
@@ -101,8 +100,28 @@ brokenKind = services + 1
 unfoldable pub kindOf : List ℕ → ℕ → ℕ
 kindOf s bit = ifEq (getD s stateAt 0) 0 (ifB (freeKept s bit) freeKind brokenKind) (ifB (usedKept s bit) (getD s serviceAt 0) brokenKind)
 
+-- THE BIT THAT THE WALK TAKES: a free place's for set. Whether it is, the number of bits that are set tells in the end
+unfoldable pub seenBit : List ℕ → ℕ → ℕ
+seenBit t p = ifEq (getD (slot t p) stateAt 0) 0 1 (mapBit t p)
+
 unfoldable pub kindAt : List ℕ → ℕ → ℕ
-kindAt t p = kindOf (slot t p) (mapBit t p)
+kindAt t p = kindOf (slot t p) (seenBit t p)
+
+unfoldable pub slotSeen : List ℕ → ℕ → Bool
+slotSeen t p = slotKept (slot t p) (seenBit t p)
+
+module _ (t s : List ℕ) (p : ℕ) (e : s ≡ slot t p) where
+  pub seen-free : getD s stateAt 0 ≡ 0 → 1 ≡ seenBit t p
+  unfolding seenBit
+  seen-free z = eq _ _ _ _ (ap (λ (l : List ℕ). getD l stateAt 0) (sym e) ∙ z) refl
+
+  pub seen-used : (getD s stateAt 0 ≡ 0 → ⊥) → mapBit t p ≡ seenBit t p
+  unfolding seenBit
+  seen-used n = ne _ _ _ _ (λ z. n (ap (λ (l : List ℕ). getD l stateAt 0) e ∙ z)) refl
+
+pub seen-set : (t : List ℕ) (p : ℕ) → (mapBit t p ≡ 0 → ⊥) → seenBit t p ≡ 0 → ⊥
+unfolding seenBit
+seen-set t p m z = by-eq _ _ _ _ (sym z) (λ _ w. omega (arith, w)) (λ _ w. m (sym w))
 
 -- what a used place's rules say of its octets
 pub used-service : (s : List ℕ) (bit : ℕ) → usedKept s bit ≡ true → getD s serviceAt 0 < services
@@ -170,9 +189,9 @@ kind-marked s bit m n = go (eqb (getD s stateAt 0) 0) refl
     go true e = kind-broken s bit (eqb-true (getD s stateAt 0) 0 e) n
     go false e = ne _ _ _ _ (eqb-false (getD s stateAt 0) 0 e) (no _ _ _ (sym (ne _ _ _ _ m refl)) refl)
 
-pub place-kept : (t : List ℕ) (p : ℕ) → slotAtKept t p ≡ ltb (kindAt t p) brokenKind
-unfolding slotAtKept kindAt
-place-kept t p = kind-kept (slot t p) (mapBit t p)
+pub place-kept : (t : List ℕ) (p : ℕ) → slotSeen t p ≡ ltb (kindAt t p) brokenKind
+unfolding slotSeen kindAt
+place-kept t p = kind-kept (slot t p) (seenBit t p)
 
 pub kept-told : (s : List ℕ) (bit : ℕ) → slotKept s bit ≡ true → Kept s bit (kindOf s bit)
 unfolding kindOf
@@ -186,6 +205,18 @@ kept-told s bit e = record {
       (k, used-bit s bit u, subst (λ (x : ℕ). x < services) (sym k) (used-service s bit u));
 }
 
-pub kept-at : (t : List ℕ) (p : ℕ) → slotAtKept t p ≡ true → Kept (slot t p) (mapBit t p) (kindAt t p)
-unfolding slotAtKept kindAt
-kept-at t p e = kept-told (slot t p) (mapBit t p) e
+pub kept-at : (t : List ℕ) (p : ℕ) → slotSeen t p ≡ true → Kept (slot t p) (seenBit t p) (kindAt t p)
+unfolding slotSeen kindAt
+kept-at t p e = kept-told (slot t p) (seenBit t p) e
+
+-- a place that passes by its own bit passes by the one seen, and the other way round where they are the same
+pub seen-kept : (t : List ℕ) (p : ℕ) → slotAtKept t p ≡ true → slotSeen t p ≡ true
+unfolding slotAtKept slotSeen
+seen-kept t p k =
+    let same : seenBit t p ≡ mapBit t p =
+    by-eq _ _ _ _ (sym k) (λ z w. sym (seen-free t (slot t p) p refl z) ∙ sym (free-bit (slot t p) (mapBit t p) (sym w))) (λ n w. sym (seen-used t (slot t p) p refl n)) in
+    ap (slotKept (slot t p)) same ∙ k
+
+pub kept-seen : (t : List ℕ) (p : ℕ) → seenBit t p ≡ mapBit t p → slotSeen t p ≡ true → slotAtKept t p ≡ true
+unfolding slotAtKept slotSeen
+kept-seen t p same k = ap (slotKept (slot t p)) (sym same) ∙ k

@@ -15,8 +15,7 @@ use Rattle.laws.specs.Lists.{tab, at-tab, tab-set, tab-ext, sum-tab}
 use Rattle.paper.specs.Calls.{isFree, isOf, held}
 use Rattle.paper.specs.Sizes.{placesInAll, services}
 use Rattle.paper.specs.Layout.{stateAt, serviceAt, placeBy, slot, view}
-use Rattle.table_laws.specs.Whole.{slotAtKept}
-use Rattle.table_rules.specs.Kinds.{freeKind, brokenKind, kindAt, kept-at, place-kept}
+use Rattle.table_rules.specs.Kinds.{freeKind, brokenKind, slotSeen, kindAt, kept-at, place-kept}
 
 abbrev pub isKind : ℕ → ℕ → ℕ
 isKind a k = cond (eqb a k) 1 0
@@ -80,26 +79,26 @@ pub record FreeRun (t : List ℕ) (p r : ℕ) : Type 0 where
 -- every place below p keeps the rules and was counted; p is not free
 pub record Upto (t : List ℕ) (p : ℕ) (counts : List ℕ) : Type 0 where
   pub most : p ≤ placesInAll
-  pub keeps : all (slotAtKept t) p ≡ true
+  pub keeps : all (slotSeen t) p ≡ true
   pub counted : counts ≡ tallies t p
   pub end : p < placesInAll → kindAt t p ≡ freeKind → ⊥
 
-run-keeps : (t : List ℕ) (n p : ℕ) → ((q : ℕ) → p ≤ q → q < p + n → kindAt t q ≡ freeKind) → all (slotAtKept t) p ≡ true
-    → (all (slotAtKept t) (p + n) ≡ true) × (tallies t p ≡ tallies t (p + n))
-run-keeps t zero p h k = (ap (all (slotAtKept t)) (add-zero p) ∙ k, ap (tallies t) (sym (add-zero p)))
+run-keeps : (t : List ℕ) (n p : ℕ) → ((q : ℕ) → p ≤ q → q < p + n → kindAt t q ≡ freeKind) → all (slotSeen t) p ≡ true
+    → (all (slotSeen t) (p + n) ≡ true) × (tallies t p ≡ tallies t (p + n))
+run-keeps t zero p h k = (ap (all (slotSeen t)) (add-zero p) ∙ k, ap (tallies t) (sym (add-zero p)))
 run-keeps t (suc n) p h k =
     let e : p + 1 + n ≡ p + suc n = omega arith in
     let f : kindAt t p ≡ freeKind = h p (omega arith) (omega arith) in
-    let r = run-keeps t n (p + 1) (λ q a b. h q (omega arith) (omega arith)) (all-step (slotAtKept t) p k (place-kept t p ∙ lt-ltb (kindAt t p) brokenKind (omega (arith, f)))) in
-    (ap (all (slotAtKept t)) (sym e) ∙ r .0, tallies-free t p f ∙ r .1 ∙ ap (tallies t) e)
+    let r = run-keeps t n (p + 1) (λ q a b. h q (omega arith) (omega arith)) (all-step (slotSeen t) p k (place-kept t p ∙ lt-ltb (kindAt t p) brokenKind (omega (arith, f)))) in
+    (ap (all (slotSeen t)) (sym e) ∙ r .0, tallies-free t p f ∙ r .1 ∙ ap (tallies t) e)
 
-run-upto : (t : List ℕ) (p r : ℕ) (counts : List ℕ) → all (slotAtKept t) p ≡ true → counts ≡ tallies t p → FreeRun t p r → Upto t r counts
+run-upto : (t : List ℕ) (p r : ℕ) (counts : List ℕ) → all (slotSeen t) p ≡ true → counts ≡ tallies t p → FreeRun t p r → Upto t r counts
 run-upto t p r counts k c f =
     let e : p + (r - p) ≡ r = omega (arith, f .start) in
     let w = run-keeps t (r - p) p (λ q a b. f .free q a (omega arith)) k in
     record {
       most = f .most;
-      keeps = ap (all (slotAtKept t)) (sym e) ∙ w .0;
+      keeps = ap (all (slotSeen t)) (sym e) ∙ w .0;
       counted = c ∙ w .1 ∙ ap (tallies t) e;
       end = f .end;
     }
@@ -111,7 +110,7 @@ pub upto-more : (t : List ℕ) (p r k : ℕ) (counts : List ℕ) → Upto t p co
     → Upto t r (set counts k (getD counts k 0 + 1))
 upto-more t p r k counts u e h f =
     run-upto t (p + 1) r (set counts k (getD counts k 0 + 1))
-    (all-step (slotAtKept t) p (u .keeps) (place-kept t p ∙ lt-ltb (kindAt t p) brokenKind (omega (arith, e))))
+    (all-step (slotSeen t) p (u .keeps) (place-kept t p ∙ lt-ltb (kindAt t p) brokenKind (omega (arith, e))))
     (ap (λ (l : List ℕ). set l k (getD l k 0 + 1)) (u .counted) ∙ tallies-step t p k e h) f
 
 pub upto-small : (t : List ℕ) (p k : ℕ) (counts : List ℕ) → Upto t p counts → k < services → getD counts k 0 ≤ placesInAll
@@ -120,9 +119,9 @@ upto-small t p k counts u h =
     omega (arith, e, tallies-le t p k h, u .most)
 
 -- ---- what a kind says of its place
-module _ (t : List ℕ) (keeps : all (slotAtKept t) placesInAll ≡ true) where
-  each : (q : ℕ) → q < placesInAll → slotAtKept t q ≡ true
-  each q h = all-at (slotAtKept t) placesInAll q keeps h
+module _ (t : List ℕ) (keeps : all (slotSeen t) placesInAll ≡ true) where
+  each : (q : ℕ) → q < placesInAll → slotSeen t q ≡ true
+  each q h = all-at (slotSeen t) placesInAll q keeps h
 
   kind-of-service : (s q : ℕ) → s < services → q < placesInAll → isKind (kindAt t q) s ≡ isOf s (placeBy (slot t q))
   unfolding isOf isFree placeBy ifEq

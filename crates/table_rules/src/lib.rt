@@ -27,12 +27,13 @@ ghost use Prim.Native.Nat.{_+_, _*_, _≤_, _<_};
 ghost use lib.Dec.{eqb};
 ghost use lib.ListN.{length, drop, getD};
 ghost use Rattle.laws.specs.Lists.{zeros};
-ghost use Rattle.paper.specs.Sizes.{placesInAll, mostRejects, mostWaiting};
+ghost use Rattle.laws.specs.Sums.{sum};
+ghost use Rattle.paper.specs.Sizes.{placesInAll, services, mostRejects, mostWaiting};
 ghost use Rattle.paper.specs.Invocations.{isOpen};
 ghost use Rattle.paper.specs.Layout.{placeSize, tableSize, stateAt, invocationBy, rejectBy, controlBy};
 ghost use Rattle.paper.specs.Dialogues.{hasPeer};
 ghost use Rattle.paper.specs.Rules.{invocationKept, invocationsKept, rejectKept, rejectsKept, peerKept, waitingKept};
-ghost use Rattle.table_laws.specs.Slots.{freeKept, usedKept};
+ghost use Rattle.table_laws.specs.Slots.{usedKept};
 ghost use Rattle.table_rules.specs.Kinds.{invocationsFrom, noneOpen, invocationAtKept, IdleFrom, rejectsFrom, rejectAtKept, octetsKept, headKept, tailKept, freeKind, kindAt};
 ghost use Rattle.table_rules.specs.Tally.{FreeRun};
 ghost use Rattle.table_rules.specs.Checking.{Scanned, CheckTold};
@@ -67,14 +68,11 @@ fn zeros_from(rec: &[u8], k: usize) -> bool
     acc == 0
 }
 
-// "a free place is all zero but its turn": its bit of the map is set, its state is 0.
-fn free_kept(rec: &[u8], bit: u8) -> bool
+// "a free place is all zero but its turn": its state is 0.
+fn free_kept(rec: &[u8]) -> bool
     requires { ⌜ (length (now rec) ≡ placeSize) × (getD (now rec) stateAt 0 ≡ 0) ⌝ }
-    ensures { λ r. ⌜ r ≡ freeKept (now (rec .entry)) bit ⌝ }
+    ensures { λ r. ⌜ r ≡ zeros (drop stateAt (now (rec .entry))) ⌝ }
 {
-    if bit != 1 {
-        return false;
-    }
     if table_map::word(rec, SERVICE) != 0 {
         return false;
     }
@@ -387,7 +385,7 @@ fn used_kept(rec: &[u8]) -> bool
     false
 }
 
-// Whether place p is free and keeps the rules.
+// Whether place p is free and keeps the rules. Its bit of the map isn't read: how many are set tells, in check, whether it is.
 fn is_free(t: &[u8], p: usize) -> bool
     requires { ⌜ (length (now t) ≡ tableSize) × (p < placesInAll) ⌝ }
     ensures { λ r. ⌜ r ≡ eqb (kindAt (now (t .entry)) p) freeKind ⌝ }
@@ -396,8 +394,7 @@ fn is_free(t: &[u8], p: usize) -> bool
     if table_fields::state(rec) != DIALOGUE_FREE {
         return false;
     }
-    let bit = table_map::bit_at(t, p);
-    free_kept(rec, bit)
+    free_kept(rec)
 }
 
 // The first place from p on that is not free or breaks a rule; 128 where there is none. A run of free places is the quickest to check.
@@ -463,6 +460,19 @@ fn scan(t: &[u8]) -> Kinds
     }
 }
 
+// How many dialogues there are in all.
+fn total(counts: [u8; SERVICES]) -> u32
+    ensures { λ r. ⌜ (r ≡ sum (λ i. getD counts i 0) services) × (r ≤ services * 256) ⌝ }
+{
+    let mut n: u32 = 0;
+    let mut k: usize = 0;
+    while k < SERVICES {
+        n = n + laws::number(counts[k]);
+        k += 1;
+    }
+    n
+}
+
 pub struct Checked {
     pub answer: u32,
     pub counts: [u8; SERVICES],
@@ -493,6 +503,10 @@ pub fn check(t: &[u8]) -> Checked
     if kept {
         let counts = s.counts;
         let free = table_map::free_count(t);
+        // "the map agrees with the places": no used place's bit is set, so where as many are set as places are free, they are the free ones'
+        if free + total(counts) != SHARED {
+            return refused(2);
+        }
         let shares = table_shares::shares_kept(
             &t[GUARANTEES..LIMITS],
             &t[LIMITS..PLACES],

@@ -1,5 +1,4 @@
 use Rattle.table_rules.proofs.Laws.{free-words}
-use Rattle.table_laws.specs.Slots.{freeKept}
 use Rattle.laws.specs.If.{eq, ne}
 use mathlib.Core.Path.{refl, sym, _∙_}
 use native.Mathlib.Omega.{arith}
@@ -7,48 +6,39 @@ use borrow.Author.Needs.{needs}
 use Rattle.table_rules.proofs.free_kept.Statement.{statement}
 use Rattle.table_rules.proofs.free_kept.Tie as tie
 
-returns : tie.Need-returns
-unfolding freeKept
-returns c = ne _ _ _ _ (λ h. omega arith) refl
-
 word-requires : tie.Need-word-requires
 word-requires c κs = search needs
 
-returns-2 : tie.Need-returns-2
-unfolding freeKept
-returns-2 c = eq _ _ _ _ (omega arith) (ne _ _ _ _ (λ h. omega arith) refl ∙ sym (free-words (c .before .before .before .before .args .rec .now) (omega arith) (omega arith)))
+returns : tie.Need-returns
+returns c = ne _ _ _ _ (λ h. omega arith) refl ∙ sym (free-words (c .before .before .before .args .rec .now) (omega arith) (omega arith))
 
 word-requires-2 : tie.Need-word-requires-2
 word-requires-2 c κs = search needs
 
-returns-3 : tie.Need-returns-3
-unfolding freeKept
-returns-3 c = eq _ _ _ _ (omega arith) (eq _ _ _ _ (omega arith) (ne _ _ _ _ (λ h. omega arith) refl) ∙ sym (free-words (c .before .before .before .before .before .before .args .rec .now) (omega arith) (omega arith)))
+returns-2 : tie.Need-returns-2
+returns-2 c = eq _ _ _ _ (omega arith) (ne _ _ _ _ (λ h. omega arith) refl) ∙ sym (free-words (c .before .before .before .before .before .args .rec .now) (omega arith) (omega arith))
 
 word-requires-3 : tie.Need-word-requires-3
 word-requires-3 c κs = search needs
 
-returns-4 : tie.Need-returns-4
-unfolding freeKept
-returns-4 c = eq _ _ _ _ (omega arith) (eq _ _ _ _ (omega arith) (eq _ _ _ _ (omega arith) (ne _ _ _ _ (λ h. omega arith) refl)) ∙ sym (free-words (c .before .before .before .before .before .before .before .before .args .rec .now) (omega arith) (omega arith)))
+returns-3 : tie.Need-returns-3
+returns-3 c = eq _ _ _ _ (omega arith) (eq _ _ _ _ (omega arith) (ne _ _ _ _ (λ h. omega arith) refl)) ∙ sym (free-words (c .before .before .before .before .before .before .before .args .rec .now) (omega arith) (omega arith))
 
 zeros-from-requires : tie.Need-zeros-from-requires
 zeros-from-requires c κs = search needs
 
-returns-5 : tie.Need-returns-5
-unfolding freeKept
-returns-5 c = eq _ _ _ _ (omega arith) (eq _ _ _ _ (omega arith) (eq _ _ _ _ (omega arith) (eq _ _ _ _ (omega arith) (c .zeros-from .ensures))) ∙ sym (free-words (c .before .before .before .before .before .before .before .before .before .args .rec .now) (omega arith) (omega arith)))
+returns-4 : tie.Need-returns-4
+returns-4 c = eq _ _ _ _ (omega arith) (eq _ _ _ _ (omega arith) (eq _ _ _ _ (omega arith) (c .zeros-from .ensures))) ∙ sym (free-words (c .before .before .before .before .before .before .before .before .args .rec .now) (omega arith) (omega arith))
 
 pub free-kept-spec : {M : Type 1} → statement M
 free-kept-spec =
     tie.close
     (tie.spec
-    returns
     word-requires
-    returns-2
+    returns
     word-requires-2
-    returns-3
+    returns-2
     word-requires-3
-    returns-4
+    returns-3
     zeros-from-requires
-    returns-5)
+    returns-4)

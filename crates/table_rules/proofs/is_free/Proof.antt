@@ -1,5 +1,7 @@
 use Rattle.table_rules.proofs.Laws.{kind-here}
-use Rattle.table_rules.specs.Kinds.{freeKind, kind-used, kind-free}
+use Rattle.table_rules.specs.Kinds.{freeKind, seen-free, kind-used, kind-free}
+use Rattle.table_laws.specs.Slots.{freeKept}
+use Rattle.laws.specs.If.{eq}
 use Prim.Native.Nat.{ℕ}
 use mathlib.Core.Path.{refl, ap, _∙_}
 use lib.Dec.{eqb}
@@ -26,19 +28,18 @@ returns c =
     let e = c .before .before .slot .ensures .0 in
     kind-used _ _ (λ z. c .if1 .taken (c .before .state .ensures ∙ z)) ∙ ap (λ (k : ℕ). eqb k freeKind) (kind-here (a .t .now) _ (a .p) _ e refl)
 
-bit-at-requires : tie.Need-bit-at-requires
-bit-at-requires c κs = search needs
-
 free-kept-requires : tie.Need-free-kept-requires
 free-kept-requires c κs = search needs
 
 returns-2 : tie.Need-returns-2
+unfolding freeKept
 returns-2 c =
-    let s = c .before .before .before in
+    let s = c .before .before in
     let a = s .before .before .before .args in
-    c .free-kept .ensures ∙ kind-free _ _ (omega arith) ∙ ap (λ (k : ℕ). eqb k freeKind) (kind-here (a .t .now) _ (a .p) _ (s .before .slot .ensures .0) (c .before .bit-at .ensures .0))
+    let e = s .before .slot .ensures .0 in
+    c .free-kept .ensures ∙ eq _ _ _ _ refl refl ∙ kind-free _ 1 (omega arith) ∙ ap (λ (k : ℕ). eqb k freeKind) (kind-here (a .t .now) _ (a .p) 1 e (seen-free (a .t .now) _ (a .p) e (omega arith)))
 
 pub is-free-spec : {M : Type 1} → statement M
 is-free-spec =
     tie.close
-    (tie.spec slot-requires state-requires returns bit-at-requires free-kept-requires returns-2)
+    (tie.spec slot-requires state-requires returns free-kept-requires returns-2)

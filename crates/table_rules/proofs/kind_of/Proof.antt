@@ -1,5 +1,5 @@
 use Rattle.table_rules.proofs.Laws.{kind-here}
-use Rattle.table_rules.specs.Kinds.{kindOf, kind-marked, kind-broken}
+use Rattle.table_rules.specs.Kinds.{kindOf, seen-set, seen-used, kind-marked, kind-broken}
 use Rattle.laws.specs.If.{ne, yes, no}
 use mathlib.Core.Path.{refl, sym, _∙_}
 use native.Mathlib.Omega.{arith}
@@ -24,8 +24,8 @@ returns : tie.Need-returns
 returns c =
     let d = c .before in
     let b = d .before .before .before in
-    let k = kind-here (b .args .t .now) _ (b .args .p) _ (d .before .slot .ensures .0) (d .bit-at .ensures .0) in
-    kind-marked _ _ (c .if1 .taken) (λ q. b .pre .2 (sym k ∙ q)) ∙ k
+    let k = kind-here (b .args .t .now) _ (b .args .p) _ (d .before .slot .ensures .0) refl in
+    kind-marked _ _ (seen-set (b .args .t .now) (b .args .p) (λ z. c .if1 .taken (d .bit-at .ensures .0 ∙ z))) (λ q. b .pre .2 (sym k ∙ q)) ∙ k
 
 state-requires : tie.Need-state-requires
 state-requires c κs = search needs
@@ -34,7 +34,7 @@ returns-2 : tie.Need-returns-2
 returns-2 c =
     let d = c .before .before .before in
     let b = d .before .before .before in
-    let k = kind-here (b .args .t .now) _ (b .args .p) _ (d .before .slot .ensures .0) (d .bit-at .ensures .0) in
+    let k = kind-here (b .args .t .now) _ (b .args .p) _ (d .before .slot .ensures .0) refl in
     kind-broken _ _ (omega arith) (λ q. b .pre .2 (sym k ∙ q)) ∙ k
 
 used-kept-requires : tie.Need-used-kept-requires
@@ -51,16 +51,18 @@ unfolding kindOf
 returns-3 c =
     let i = c .before .before .before .before .before in
     let b = i .before .before .before .before in
+    let e = i .before .before .slot .ensures .0 in
     c .service .ensures ∙ ne _ _ _ _ (λ h. omega arith) (yes _ _ _ (cc) refl)
-    ∙ kind-here (b .args .t .now) _ (b .args .p) 0 (i .before .before .slot .ensures .0) (sym (i .if1 .left) ∙ i .before .bit-at .ensures .0)
+    ∙ kind-here (b .args .t .now) _ (b .args .p) 0 e (sym (i .if1 .left) ∙ i .before .bit-at .ensures .0 ∙ seen-used (b .args .t .now) _ (b .args .p) e (λ h. omega arith))
 
 returns-4 : tie.Need-returns-4
 unfolding kindOf
 returns-4 c =
     let i = c .before .before .before .before in
     let b = i .before .before .before .before in
+    let e = i .before .before .slot .ensures .0 in
     ne _ _ _ _ (λ h. omega arith) (no _ _ _ (cc) refl)
-    ∙ kind-here (b .args .t .now) _ (b .args .p) 0 (i .before .before .slot .ensures .0) (sym (i .if1 .left) ∙ i .before .bit-at .ensures .0)
+    ∙ kind-here (b .args .t .now) _ (b .args .p) 0 e (sym (i .if1 .left) ∙ i .before .bit-at .ensures .0 ∙ seen-used (b .args .t .now) _ (b .args .p) e (λ h. omega arith))
 
 pub kind-of-spec : {M : Type 1} → statement M
 kind-of-spec =

@@ -1,7 +1,6 @@
 use Rattle.table_rules.proofs.Laws.{above}
 use Rattle.table_rules.specs.Tally.{tallies, Upto, upto-start, upto-more, upto-small}
-use Rattle.table_rules.specs.Kinds.{brokenKind, kindAt, place-kept}
-use Rattle.table_laws.specs.Whole.{slotAtKept}
+use Rattle.table_rules.specs.Kinds.{brokenKind, slotSeen, kindAt, place-kept}
 use Rattle.paper.specs.Sizes.{placesInAll}
 use Rattle.laws.specs.If.{all, all-fails, true-false}
 use borrow.Author.Tests.{le-ltb}
@@ -38,7 +37,7 @@ returns c =
     let t : List ℕ = l .before .before .before .args .t .now in
     let p : ℕ = l .loop .p in
     record {
-      is = sym (all-fails (slotAtKept t) placesInAll p (omega arith)
+      is = sym (all-fails (slotSeen t) placesInAll p (omega arith)
           (place-kept t p ∙ le-ltb (kindAt t p) brokenKind (above (c .before .kind-of .result) (kindAt t p) (c .before .kind-of .ensures) (omega arith) (l .loop .inv .end (omega arith)))));
       told = λ q. absurd (true-false (sym q));
     }
@@ -75,7 +74,7 @@ returns-2 c =
     let t : List ℕ = l .before .before .before .args .t .now in
     let e : l .loop .p ≡ placesInAll = omega arith in
     record {
-      is = sym (ap (all (slotAtKept t)) (sym e) ∙ l .loop .inv .keeps);
+      is = sym (ap (all (slotSeen t)) (sym e) ∙ l .loop .inv .keeps);
       told = λ q. l .loop .inv .counted ∙ ap (tallies t) e;
     }
 
