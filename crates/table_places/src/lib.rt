@@ -187,7 +187,7 @@ fn reject_mark(r: Reject) -> u8
     (r.problem % 256 % 8 + r.problem / 256 % 16 * 8 + r.id / 256 % 2 * 128) as u8
 }
 
-// n wait: the others are none, whose octets are 0.
+// Those of the n that wait. The others are none (01, "octets and invocations not in use are zero"), and the octets of none are 0.
 fn reject_octets(l: [Reject; 8], n: u8) -> [u8; 16]
     requires { ⌜ (n ≤ mostRejects) × FineRejects n l ⌝ }
     ensures { λ r. ⌜ r ≡ rejectPairs l ⌝ }

@@ -54,6 +54,7 @@ fn beyond(a: u32, b: u32) -> u32
     a - b
 }
 
+// The higher of two.
 fn higher(a: u32, b: u32) -> u32
     ensures { λ r. ⌜ r ≡ a + (b - a) ⌝ }
 {
@@ -82,8 +83,8 @@ pub struct Kept {
 }
 
 // "shares as for 13; nobody above the limit; free places at least the sum of unused guarantees", and that sum: of a resource of that size of
-// which so much is free. What is over a limit, or of a limit over all there is, is added up too: a walk that always goes to its end is one
-// that the compiler takes several services at a time.
+// which so much is free. What is over a limit, and of a limit over all there is, is added up too and judged at the end: a walk with no other
+// exit is one in which the compiler takes several services at a time.
 pub fn shares_kept(guarantees: &[u8], limits: &[u8], counts: [u8; 16], size: u32, free: u32) -> Kept
     requires { ⌜ (length (now guarantees) ≡ services) × (length (now limits) ≡ services) × Remains (shared size services (now guarantees) (now limits) (λ k. getD counts k 0)) free ⌝ }
     ensures { λ r. ⌜ Parted (shared size services (now (guarantees .entry)) (now (limits .entry)) (λ k. getD counts k 0)) (r .ok) (r .unused) ⌝ }
