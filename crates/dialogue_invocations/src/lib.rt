@@ -2,7 +2,7 @@
 ghost use mathlib.Core.Bool.{true};
 ghost use mathlib.Core.Path.{_≡_};
 ghost use Prim.Native.Nat.{ℕ, _+_, _<_, _≤_};
-ghost use mathlib.Core.List.{map};
+ghost use mathlib.Core.List.{[], map};
 ghost use lib.ListN.{length, getD};
 ghost use Rattle.paper.specs.Invocations.{noInvocation, isOpen, isIdle, slotOf, idleSlot, invocationOf, withInvocation, toState, toIdle, allIdle, passed, transmitted, rejectingIDs, allTransmitted, rejecting, mayReject};
 ghost use Rattle.laws.specs.If.{ifEq};
@@ -226,7 +226,22 @@ fn transmit_all(l: [Invocation; 8]) -> [Invocation; 8]
     m
 }
 
-// Each that was Rejecting to Idle. Most sendings have none: the record is touched only where one is.
+// Whether none is Rejecting, as in most sendings: then there is none to settle.
+fn none_rejecting(l: [Invocation; 8]) -> bool
+    ensures { λ r. ⌜ (r ≡ true → rejectingIDs l ≡ []) ⌝ }
+{
+    let mut i: usize = 0;
+    while i < 8 {
+        let w = l[i];
+        if w.state == REJECTING {
+            return false;
+        }
+        i += 1;
+    }
+    true
+}
+
+// Each that was Rejecting to Idle.
 fn settle_all(c: Control, l: [Invocation; 8]) -> Control
     ensures { λ r. ⌜ r ≡ allIdle c (rejectingIDs l) ⌝ }
 {
@@ -250,5 +265,8 @@ pub fn sent_out(c: Control) -> Control
     let m = transmit_all(l);
     let mut d = c;
     d.invocations = m;
+    if none_rejecting(l) {
+        return d;
+    }
     settle_all(d, l)
 }

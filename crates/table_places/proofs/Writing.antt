@@ -1,11 +1,12 @@
 -- The octets that the code makes are those of the control record. Assumes nothing.
-use Prim.Native.Nat.{ℕ, suc, _+_, _*_, _/_, _%_, _<_}
+use Prim.Native.Nat.{ℕ, zero, suc, _+_, _*_, _/_, _%_, _<_, _≤_}
 use mathlib.Core.Path.{_≡_, refl, sym, ap, _∙_}
 use mathlib.Core.List.{List, [], _∷_, _++_}
 use native.Mathlib.Omega.{arith}
-use lib.ListN.{length, getD, take, drop, replicate, length-replicate}
+use lib.ListN.{length, getD, set, take, drop, replicate, length-replicate}
 use lib.Seq.{sets}
-use Rattle.laws.specs.Lists.{tab-all}
+use Rattle.laws.specs.If.{ifLt, lt, ge, by-lt}
+use Rattle.laws.specs.Lists.{tab, tab-all, tab-set, tab-ext}
 use Rattle.laws.specs.Runs.{Wrote, wrote-more}
 use Rattle.laws.specs.Parts.{over}
 use Rattle.laws.specs.Fields.{laidOut, laid-split, pairs}
@@ -22,9 +23,39 @@ use Rattle.table_laws.specs.Octets.{SmallReject, rejects-small, controlOctets, 
 use Rattle.table_laws.specs.Stores.{sets-over}
 use Rattle.table_places.specs.Made.{headWith, headOctets, madeInvocation, invocationPairs, madeReject, rejectPairs}
 
--- a pair, and those after it
-pub pair-then : {a b x y : ℕ} {r s : List ℕ} → a ≡ x → b ≡ y → r ≡ s → a ∷ b ∷ r ≡ x ∷ y ∷ s
-pair-then {a} {b} {x} {y} {r} {s} e f g = ap (λ (k : ℕ). k ∷ b ∷ r) e ∙ ap (λ (k : ℕ). x ∷ k ∷ r) f ∙ ap (λ (l : List ℕ). x ∷ y ∷ l) g
+-- ---- PAIRS MADE ONE BY ONE: those of the first i of a list are made, n in all, the others are of d
+unfoldable pub made : {A : Type 0} → (A → ℕ) → (A → ℕ) → A → ℕ → List A → ℕ → List ℕ
+made f g d n l i = pairs f g (tab n 0 (λ j. ifLt j i (getD l j d) d))
+
+module _ {A : Type 0} (f g : A → ℕ) (d : A) (n : ℕ) (l : List A) where
+  pairs-set : (m : List A) (i : ℕ) (x : A) → set (set (pairs f g m) (2 * i) (f x)) (2 * i + 1) (g x) ≡ pairs f g (set m i x)
+  pairs-set [] i x = refl
+  pairs-set (y ∷ m) zero x = refl
+  pairs-set (y ∷ m) (suc i) x =
+      let z : 2 * suc i ≡ suc (suc (2 * i)) = omega arith in
+      let w : 2 * suc i + 1 ≡ suc (suc (2 * i + 1)) = omega arith in
+      rw (w, z) (ap (λ (r : List ℕ). f y ∷ g y ∷ r) (pairs-set m i x))
+
+  pub made-none : pairs f g (tab n 0 (λ j. d)) ≡ made f g d n l 0
+  unfolding made
+  made-none = ap (pairs f g) (tab-ext n _ _ d (λ j h. ge _ _ _ _ (omega arith) refl))
+
+  pub made-more : {o : List ℕ} {i a b : ℕ} → o ≡ made f g d n l i → i < n → a ≡ f (getD l i d) → b ≡ g (getD l i d)
+      → set (set o (2 * i) a) (2 * i + 1) b ≡ made f g d n l (i + 1)
+  unfolding made
+  made-more {o} {i} {a} {b} e h p q =
+      let k : i < i + 1 = omega arith in
+      rw (p, q) (ap (λ (r : List ℕ). set (set r (2 * i) (f (getD l i d))) (2 * i + 1) (g (getD l i d))) e)
+      ∙ pairs-set (tab n 0 (λ j. ifLt j i (getD l j d) d)) i (getD l i d)
+      ∙ ap (λ (x : A). pairs f g (set (tab n 0 (λ j. ifLt j i (getD l j d) d)) i x)) (lt i (i + 1) (getD l i d) d k refl)
+      ∙ ap (pairs f g) (sym (tab-set n (λ j. ifLt j i (getD l j d) d) (λ j. ifLt j (i + 1) (getD l j d) d) i h other d))
+    where
+      other : (j : ℕ) → (j ≡ i → ⊥) → ifLt j (i + 1) (getD l j d) d ≡ ifLt j i (getD l j d) d
+      other j ne = by-lt {r = ifLt j i (getD l j d) d} _ _ _ _ refl (λ q z. sym (lt _ _ _ _ (omega arith) z)) (λ q z. sym (ge _ _ _ _ (omega arith) z))
+
+  pub made-all : {o : List ℕ} {i : ℕ} → o ≡ made f g d n l i → ((j : ℕ) → i ≤ j → j < n → getD l j d ≡ d) → o ≡ pairs f g (tab n 0 (λ j. getD l j d))
+  unfolding made
+  made-all {o} {i} e r = e ∙ ap (pairs f g) (tab-ext n _ _ d (λ j h. by-lt {r = ifLt j i (getD l j d) d} _ _ _ _ refl (λ q z. z) (λ q z. z ∙ sym (r j q h))))
 
 -- ---- what goes into its bits is not changed by the remainder
 pairs-same : {A : Type 0} (f g h : A → ℕ) (d : A) (l : List A) → ((j : ℕ) → j < length l → g (getD l j d) ≡ h (getD l j d)) → pairs f g l ≡ pairs f h l

@@ -14,15 +14,14 @@ use paper::TURN;
 use paper::TURNS;
 ghost use mathlib.Core.Path.{_≡_};
 ghost use mathlib.Core.List.{[]};
-ghost use Prim.Native.Nat.{_%_, _≤_, _<_};
-ghost use lib.ListN.{length, getD};
+ghost use Prim.Native.Nat.{_≤_, _<_};
+ghost use lib.ListN.{length};
 ghost use Rattle.laws.specs.Parts.{over};
-ghost use Rattle.paper.specs.Sizes.{placesInAll, mostInvocations, mostRejects, mostWaiting, turns, localID, nextTurn};
-ghost use Rattle.paper.specs.Invocations.{noInvocation};
-ghost use Rattle.paper.specs.Dialogues.{noReject, withControl, freed, begun};
+ghost use Rattle.paper.specs.Sizes.{placesInAll, mostRejects, mostWaiting, turns, localID, nextTurn};
+ghost use Rattle.paper.specs.Dialogues.{withControl, freed, begun};
 ghost use Rattle.paper.specs.Calls.{placeAt, withPlace, isDialogue, owns, lowestFree};
 ghost use Rattle.paper.specs.Layout.{placeStart, placeOctets, placeSize, tableSize, placeBy, flag, encode, view};
-ghost use Rattle.table_laws.specs.Fine.{FineControl};
+ghost use Rattle.table_laws.specs.Fine.{FineRejects, FineControl};
 ghost use Rattle.table_laws.specs.Octets.{controlOctets};
 ghost use Rattle.table_laws.specs.Ready.{Ready};
 ghost use Rattle.table_places.specs.Storing.{Storing, withWaiting};
@@ -162,74 +161,47 @@ fn head_octets(c: Control, n: u8) -> [u8; 12]
     ]
 }
 
-fn invocation_mark(l: [Invocation; 8], i: usize) -> u8
-    requires { ⌜ i < mostInvocations ⌝ }
-    ensures { λ r. ⌜ r ≡ madeInvocation (getD l i noInvocation) ⌝ }
+fn invocation_mark(v: Invocation) -> u8
+    ensures { λ r. ⌜ r ≡ madeInvocation v ⌝ }
 {
-    let v = l[i];
     v.state % 8 + v.class % 8 * 8 + v.shown % 4 * 64
 }
 
 fn invocation_octets(l: [Invocation; 8]) -> [u8; 16]
     ensures { λ r. ⌜ r ≡ invocationPairs l ⌝ }
 {
-    [
-        l[0].id,
-        invocation_mark(l, 0),
-        l[1].id,
-        invocation_mark(l, 1),
-        l[2].id,
-        invocation_mark(l, 2),
-        l[3].id,
-        invocation_mark(l, 3),
-        l[4].id,
-        invocation_mark(l, 4),
-        l[5].id,
-        invocation_mark(l, 5),
-        l[6].id,
-        invocation_mark(l, 6),
-        l[7].id,
-        invocation_mark(l, 7),
-    ]
+    let mut o: [u8; 16] = [0; 16];
+    let mut i: usize = 0;
+    while i < 8 {
+        let v = l[i];
+        o[2 * i] = v.id;
+        o[2 * i + 1] = invocation_mark(v);
+        i += 1;
+    }
+    o
 }
 
-fn reject_id(l: [Reject; 8], i: usize) -> u8
-    requires { ⌜ i < mostRejects ⌝ }
-    ensures { λ r. ⌜ r ≡ getD l i noReject .id % 256 ⌝ }
+fn reject_mark(r: Reject) -> u8
+    ensures { λ n. ⌜ n ≡ madeReject r ⌝ }
 {
-    let v = l[i];
-    laws::low(v.id)
-}
-
-fn reject_mark(l: [Reject; 8], i: usize) -> u8
-    requires { ⌜ i < mostRejects ⌝ }
-    ensures { λ n. ⌜ n ≡ madeReject (getD l i noReject) ⌝ }
-{
-    let r = l[i];
     (r.problem % 256 % 8 + r.problem / 256 % 16 * 8 + r.id / 256 % 2 * 128) as u8
 }
 
-fn reject_octets(l: [Reject; 8]) -> [u8; 16]
+// Those of the n that wait. The others are none (01, "octets and invocations not in use are zero"), and the octets of none are 0.
+fn reject_octets(l: [Reject; 8], n: u8) -> [u8; 16]
+    requires { ⌜ (n ≤ mostRejects) × FineRejects n l ⌝ }
     ensures { λ r. ⌜ r ≡ rejectPairs l ⌝ }
 {
-    [
-        reject_id(l, 0),
-        reject_mark(l, 0),
-        reject_id(l, 1),
-        reject_mark(l, 1),
-        reject_id(l, 2),
-        reject_mark(l, 2),
-        reject_id(l, 3),
-        reject_mark(l, 3),
-        reject_id(l, 4),
-        reject_mark(l, 4),
-        reject_id(l, 5),
-        reject_mark(l, 5),
-        reject_id(l, 6),
-        reject_mark(l, 6),
-        reject_id(l, 7),
-        reject_mark(l, 7),
-    ]
+    let mut o: [u8; 16] = [0; 16];
+    let end = laws::wide(n);
+    let mut i: usize = 0;
+    while i < end {
+        let v = l[i];
+        o[2 * i] = laws::low(v.id);
+        o[2 * i + 1] = reject_mark(v);
+        i += 1;
+    }
+    o
 }
 
 // The control record and the length of the waiting octets of place p. What that makes of the table is in table_laws, Stores.
@@ -238,13 +210,13 @@ pub fn put_control(t: &mut [u8], p: usize, c: Control, n: u8)
     ensures { λ r. ⌜ now (t .exit) ≡ over (now (t .entry)) (placeStart p) (controlOctets c n) ⌝ }
 {
     let a = PLACES + p * PLACE_OCTETS;
-    let invocations = c.invocations;
-    let rejects = c.rejects;
     let first = head_octets(c, n);
-    let second = invocation_octets(invocations);
-    let third = reject_octets(rejects);
     writing_octets::copy_at(t, a, &first);
+    let invocations = c.invocations;
+    let second = invocation_octets(invocations);
     writing_octets::copy_at(t, a + INVOCATIONS, &second);
+    let rejects = c.rejects;
+    let third = reject_octets(rejects, c.count);
     writing_octets::copy_at(t, a + REJECTS, &third);
 }
 

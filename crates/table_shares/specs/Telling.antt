@@ -1,14 +1,14 @@
 -- THE CODE'S NUMBERS, of any resource: the decision by five of them, and a walk over the services. Assumes nothing.
 use mathlib.Core.Path.{_≡_, refl, sym, ap, _∙_}
 use mathlib.Core.Bool.{Bool, true, false}
-use Prim.Native.Nat.{ℕ, _+_, _≤_, _<_}
+use Prim.Native.Nat.{ℕ, _+_, _-_, _≤_, _<_}
 use native.Mathlib.Numerals.{add-one}
 use native.Mathlib.Omega.{arith}
-use lib.Dec.{leb}
-use borrow.Author.Tests.{leb-true, le-leb}
-use Rattle.laws.specs.If.{ifLt, ifB, lt, ge, ne, yes, was-ge, was-yes, all, all-at, all-step, true-false}
+use lib.Dec.{leb, eqb}
+use borrow.Author.Tests.{leb-true, le-leb, eqb-true, eqb-false}
+use Rattle.laws.specs.If.{ifLt, lt, ge, ne, was-ge, true-false}
 use Rattle.laws.specs.Sums.{sum}
-use Rattle.paper.specs.Shares.{Resource, unused, allUnused, others, free, gives, limitFits, withinLimit, sharesKept}
+use Rattle.paper.specs.Shares.{Resource, unused, allUnused, others, free, gives, sharesKept}
 use Rattle.table_shares.specs.Share.{holding, same-unused, same-kept, Sound, kept-sound, sound-kept, others-all, refused-at-limit, refused-full}
 
 -- the numbers told are those of service s: what it holds, its guarantee and limit, all services' unused guarantees, what is free
@@ -42,10 +42,7 @@ module _ (R : Resource) (s count guarantee limit rest left : ℕ) (t : Told R s 
     unfolding gives
     told-room n m = ge _ _ _ _ over (ne _ _ _ _ (λ q. n (t .counted ∙ q ∙ sym (t .limited))) (ne _ _ _ _ (λ q. m (t .remain ∙ q ∙ sym whole)) refl))
 
--- ---- a walk over the services: each one's share as for 13 and what it holds within the limit, and what the walk adds up
-abbrev pub eachKept : Resource → ℕ → Bool
-eachKept R k = ifB (limitFits R k) (withinLimit R k) false
-
+-- ---- a walk over the services, and what it adds up
 pub record Parted (R : Resource) (ok : Bool) (rest : ℕ) : Type 0 where
   pub is : ok ≡ sharesKept R
   pub told : ok ≡ true → rest ≡ allUnused R
@@ -58,73 +55,79 @@ parted-same R c e p = record { is = p .is ∙ same-kept R c e; told = λ q. p .t
 pub record Remains (R : Resource) (left : ℕ) : Type 0 where
   pub is : left + sum (R .held) (R .services) ≡ R .size
 
--- the first k services, with guarantees of that total, of which that rest is unused
-pub record Walked (R : Resource) (k total rest : ℕ) : Type 0 where
-  pub each : all (eachKept R) k ≡ true
+-- what the rule asks of service i, passed by no more than over
+abbrev Within : Resource → ℕ → ℕ → Type 0
+Within R over i = (R .guarantee i ≤ R .limit i + over) × (R .held i ≤ R .limit i + over) × (R .limit i ≤ R .size + over)
+
+-- the first k services, with guarantees of that total, of which that rest is unused; over is 0 where none passes
+pub record Walked (R : Resource) (k total rest over : ℕ) : Type 0 where
   pub guaranteed : total ≡ sum (R .guarantee) k
   pub kept : rest ≡ sum (unused R) k
+  pub within : (i : ℕ) → i < k → Within R over i
+  pub none : ((i : ℕ) → i < k → Within R 0 i) → over ≡ 0
 
 module _ (R : Resource) where
-  sound-each : Sound R → (k : ℕ) → k < R .services → eachKept R k ≡ true
-  sound-each s k h =
-      sym (yes _ _ _ (sym (ge _ _ _ _ (s .shares .below k h) (sym (le-leb (R .limit k) (R .size) (s .shares .within k h)))))
-      (sym (le-leb (R .held k) (R .limit k) (s .limits k h))))
+  pub walk-start : Walked R 0 0 0 0
+  walk-start = record { guaranteed = refl; kept = refl; within = λ i h. absurd (omega arith); none = λ w. refl }
 
-  -- the test by a service's numbers
-  pub each-told : {k g l c : ℕ} {r : Bool} → g ≡ R .guarantee k → l ≡ R .limit k → c ≡ R .held k → r ≡ ifB (ifLt l g false (leb l (R .size))) (leb c l) false
-      → r ≡ eachKept R k
-  each-told a b d q = q ∙ rw (a, b, d)
-
-  each-of : (k : ℕ) → eachKept R k ≡ true → (R .guarantee k ≤ R .limit k) × (R .limit k ≤ R .size) × (R .held k ≤ R .limit k)
-  each-of k e =
-      let a : (limitFits R k ≡ true) × (true ≡ withinLimit R k) = was-yes _ _ _ (sym e) true-false in
-      let b : (R .guarantee k ≤ R .limit k) × (true ≡ leb (R .limit k) (R .size)) = was-ge _ _ _ _ (sym (a .0)) true-false in
-      (b .0, leb-true (R .limit k) (R .size) (sym (b .1)), leb-true (R .held k) (R .limit k) (sym (a .1)))
-
-  -- where it fails, the rule is broken
-  not-kept : {left rest : ℕ} {ok : Bool} → Remains R left → ok ≡ false → (Sound R → ⊥) → Parted R ok rest
-  not-kept m e n = record { is = e ∙ go (sharesKept R) refl; told = λ q. absurd (true-false (sym q ∙ e)) }
-    where
-      go : (b : Bool) → sharesKept R ≡ b → false ≡ b
-      go true w = absurd (n (kept-sound R (omega (arith, m .is)) w))
-      go false w = refl
-
-  pub walk-start : Walked R 0 0 0
-  walk-start = record { each = refl; guaranteed = refl; kept = refl }
-
-  pub walk-more : {k total rest g u : ℕ} → Walked R k total rest → eachKept R k ≡ true → g ≡ R .guarantee k → u ≡ unused R k → Walked R (k + 1) (total + g) (rest + u)
-  walk-more {k} w e a b = record {
-    each = all-step (eachKept R) k (w .each) e;
+  pub walk-more : {k total rest over g u x e f : ℕ} → Walked R k total rest over
+      → g ≡ R .guarantee k → u ≡ unused R k → x ≡ R .guarantee k + (R .held k - R .guarantee k) → e ≡ x - R .limit k → f ≡ R .limit k - R .size
+      → Walked R (k + 1) (total + g) (rest + u) (over + e + f)
+  walk-more {k} {total} {rest} {over} {g} {u} {x} {e} {f} w a b hx he hf = record {
     guaranteed = omega (arith, w .guaranteed, a) ∙ ap (sum (R .guarantee)) (sym (add-one k));
     kept = omega (arith, w .kept, b) ∙ ap (sum (unused R)) (sym (add-one k));
+    within = λ i h. go i h (eqb i k) refl;
+    none = λ v.
+        let z : Within R 0 k = v k (omega arith) in
+        omega (arith, w .none (λ i h. v i (omega arith)), he, hf, hx, z .0, z .1, z .2);
   }
+    where
+      go : (i : ℕ) → i < k + 1 → (t : Bool) → eqb i k ≡ t → Within R (over + e + f) i
+      go i h true q = rw (eqb-true i k q) (omega (arith, hx, he), omega (arith, hx, he), omega (arith, hf))
+      go i h false q =
+          let j : i ≡ k → ⊥ = eqb-false i k q in
+          let y : Within R over i = w .within i (omega arith) in
+          (omega (arith, y .0), omega (arith, y .1), omega (arith, y .2))
 
-  module _ {left k total rest : ℕ} (m : Remains R left) (w : Walked R k total rest) where
-    pub walk-unfit : {unsaid : ℕ} {ok : Bool} → ok ≡ false → k < R .services → eachKept R k ≡ false → Parted R ok unsaid
-    walk-unfit e h f = not-kept m e (λ s. true-false (sym (sound-each s k h) ∙ f))
+  -- the test at its end
+  abbrev Fair : ℕ → ℕ → ℕ → ℕ → Bool
+  Fair total rest over left = ifLt 0 over false (ifLt (R .size) total false (leb rest left))
 
-    module _ (end : k ≡ R .services) where
-      all-guaranteed : total ≡ sum (R .guarantee) (R .services)
-      all-guaranteed = w .guaranteed ∙ ap (sum (R .guarantee)) end
+  module _ {left k total rest over : ℕ} (m : Remains R left) (w : Walked R k total rest over) (end : k ≡ R .services) where
+    all-guaranteed : total ≡ sum (R .guarantee) (R .services)
+    all-guaranteed = w .guaranteed ∙ ap (sum (R .guarantee)) end
 
-      all-rest : rest ≡ allUnused R
-      all-rest = w .kept ∙ ap (sum (unused R)) end
+    all-rest : rest ≡ allUnused R
+    all-rest = w .kept ∙ ap (sum (unused R)) end
 
-      pub walk-over : {unsaid : ℕ} {ok : Bool} → ok ≡ false → R .size < total → Parted R ok unsaid
-      walk-over e h = not-kept m e (λ s. omega (arith, s .shares .fits, all-guaranteed))
+    fair-sound : true ≡ Fair total rest over left → Sound R
+    fair-sound e =
+        let a : (over ≤ 0) × (true ≡ ifLt (R .size) total false (leb rest left)) = was-ge _ _ _ _ e true-false in
+        let b : (total ≤ R .size) × (true ≡ leb rest left) = was-ge _ _ _ _ (a .1) true-false in
+        record {
+          shares = record {
+            below = λ i h. omega (arith, a .0, w .within i (omega arith) .0);
+            within = λ i h. omega (arith, a .0, w .within i (omega arith) .2);
+            fits = omega (arith, b .0, all-guaranteed);
+          };
+          limits = λ i h. omega (arith, a .0, w .within i (omega arith) .1);
+          room = omega (arith, m .is, all-rest, leb-true rest left (sym (b .1)));
+        }
 
-      pub walk-full : {unsaid : ℕ} {ok : Bool} → ok ≡ false → left < rest → Parted R ok unsaid
-      walk-full e h = not-kept m e (λ s. omega (arith, m .is, all-rest, s .room))
+    sound-fair : Sound R → true ≡ Fair total rest over left
+    sound-fair s =
+        let z : over ≡ 0 =
+        w .none
+        (λ i h.
+        let j : i < R .services = omega arith in
+        (omega (arith, s .shares .below i j), omega (arith, s .limits i j), omega (arith, s .shares .within i j))) in
+        ge _ _ _ _ (omega arith)
+        (ge _ _ _ _ (omega (arith, s .shares .fits, all-guaranteed)) (sym (le-leb rest left (omega (arith, s .room, m .is, all-rest)))))
 
-      pub walk-kept : total ≤ R .size → rest ≤ left → Parted R true rest
-      walk-kept f h = record {
-        is = sym (sound-kept R (record {
-          shares = record { below = λ k l. each k l .0; within = λ k l. each k l .1; fits = omega (arith, all-guaranteed) };
-          limits = λ k l. each k l .2;
-          room = omega (arith, m .is, all-rest);
-        }));
-        told = λ q. all-rest;
-      }
-        where
-          each : (i : ℕ) → i < R .services → (R .guarantee i ≤ R .limit i) × (R .limit i ≤ R .size) × (R .held i ≤ R .limit i)
-          each i l = each-of i (all-at (eachKept R) (R .services) i (ap (all (eachKept R)) (sym end) ∙ w .each) l)
+    pub walk-told : {ok : Bool} → ok ≡ Fair total rest over left → Parted R ok rest
+    walk-told {ok} e = record { is = go ok e (sharesKept R) refl; told = λ q. all-rest }
+      where
+        go : (b : Bool) → b ≡ Fair total rest over left → (d : Bool) → sharesKept R ≡ d → b ≡ sharesKept R
+        go true f d q = sym (sound-kept R (fair-sound f))
+        go false f true q = absurd (true-false (sound-fair (kept-sound R (omega (arith, m .is)) q) ∙ sym f))
+        go false f false q = sym q

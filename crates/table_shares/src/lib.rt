@@ -2,10 +2,10 @@
 // there is of a resource is a number handed in, and what a service may and does have are numbers of 32 bits, whatever the octets they stand in.
 ghost use mathlib.Core.Path.{_≡_};
 ghost use mathlib.Core.Bool.{false};
-ghost use Prim.Native.Nat.{ℕ, _-_, _<_};
+ghost use Prim.Native.Nat.{ℕ, _+_, _-_, _<_};
 ghost use lib.Dec.{leb};
 ghost use lib.ListN.{length, getD};
-ghost use Rattle.laws.specs.If.{ifLt, ifB};
+ghost use Rattle.laws.specs.If.{ifLt};
 ghost use Rattle.paper.specs.Sizes.{services};
 ghost use Rattle.paper.specs.Shares.{Resource, shared, gives, sharesFit};
 ghost use Rattle.table_shares.specs.Telling.{Told, Remains, Parted};
@@ -34,7 +34,7 @@ pub struct Share {
 // A service's share, where shares stand as octets, one a service.
 pub fn share_at(guarantees: &[u8], limits: &[u8], k: usize) -> Share
     requires { ⌜ (length (now guarantees) ≡ services) × (length (now limits) ≡ services) × (k < services) ⌝ }
-    ensures { λ r. ⌜ (r .guarantee ≡ getD (now (guarantees .entry)) k 0) × (r .limit ≡ getD (now (limits .entry)) k 0) × (r .guarantee < 256) ⌝ }
+    ensures { λ r. ⌜ (r .guarantee ≡ getD (now (guarantees .entry)) k 0) × (r .limit ≡ getD (now (limits .entry)) k 0) × (r .guarantee < 256) × (r .limit < 256) ⌝ }
 {
     let guarantee = laws::number(guarantees[k]);
     let limit = laws::number(limits[k]);
@@ -44,27 +44,37 @@ pub fn share_at(guarantees: &[u8], limits: &[u8], k: usize) -> Share
     }
 }
 
-// A guarantee is not above its limit, nor the limit above all there is (answer 13), and what is held is within the limit.
-fn share_kept(guarantee: u32, limit: u32, count: u32, size: u32) -> bool
-    ensures { λ r. ⌜ r ≡ ifB (ifLt limit guarantee false (leb limit size)) (leb count limit) false ⌝ }
+// How far a is above b, 0 where it is not: what of a guarantee is not used, how far a limit is passed.
+fn beyond(a: u32, b: u32) -> u32
+    ensures { λ r. ⌜ r ≡ a - b ⌝ }
 {
-    if limit < guarantee {
-        return false;
-    }
-    if size < limit {
-        return false;
-    }
-    count <= limit
-}
-
-// What of a guarantee is not used.
-fn unused_of(guarantee: u32, count: u32) -> u32
-    ensures { λ r. ⌜ r ≡ guarantee - count ⌝ }
-{
-    if guarantee < count {
+    if a < b {
         return 0;
     }
-    guarantee - count
+    a - b
+}
+
+// The higher of two.
+fn higher(a: u32, b: u32) -> u32
+    ensures { λ r. ⌜ r ≡ a + (b - a) ⌝ }
+{
+    if b > a {
+        return b;
+    }
+    a
+}
+
+// No limit is passed, nor are the guarantees together above all there is, and what of them is unused is free.
+fn fair(over: u32, sum: u32, unused: u32, size: u32, free: u32) -> bool
+    ensures { λ r. ⌜ r ≡ ifLt 0 over false (ifLt size sum false (leb unused free)) ⌝ }
+{
+    if over > 0 {
+        return false;
+    }
+    if size < sum {
+        return false;
+    }
+    unused <= free
 }
 
 pub struct Kept {
@@ -72,44 +82,29 @@ pub struct Kept {
     pub unused: u32,
 }
 
-fn unfair() -> Kept
-    ensures { λ r. ⌜ r .ok ≡ false ⌝ }
-{
-    Kept {
-        ok: false,
-        unused: 0,
-    }
-}
-
 // "shares as for 13; nobody above the limit; free places at least the sum of unused guarantees", and that sum: of a resource of that size of
-// which so much is free.
+// which so much is free. What is over a limit, and of a limit over all there is, is added up too and judged at the end: a walk with no other
+// exit is one in which the compiler takes several services at a time.
 pub fn shares_kept(guarantees: &[u8], limits: &[u8], counts: [u8; 16], size: u32, free: u32) -> Kept
     requires { ⌜ (length (now guarantees) ≡ services) × (length (now limits) ≡ services) × Remains (shared size services (now guarantees) (now limits) (λ k. getD counts k 0)) free ⌝ }
     ensures { λ r. ⌜ Parted (shared size services (now (guarantees .entry)) (now (limits .entry)) (λ k. getD counts k 0)) (r .ok) (r .unused) ⌝ }
 {
     let mut sum: u32 = 0;
     let mut unused: u32 = 0;
+    let mut over: u32 = 0;
     let mut k: usize = 0;
     while k < 16 {
         let share = share_at(guarantees, limits, k);
         let guarantee = share.guarantee;
+        let limit = share.limit;
         let count = laws::number(counts[k]);
-        if share_kept(guarantee, share.limit, count, size) {
-            sum = sum + guarantee;
-            unused = unused + unused_of(guarantee, count);
-            k += 1;
-        } else {
-            return unfair();
-        }
-    }
-    if size < sum {
-        return unfair();
-    }
-    if free < unused {
-        return unfair();
+        sum = sum + guarantee;
+        unused = unused + beyond(guarantee, count);
+        over = over + beyond(higher(guarantee, count), limit) + beyond(limit, size);
+        k += 1;
     }
     Kept {
-        ok: true,
+        ok: fair(over, sum, unused, size, free),
         unused: unused,
     }
 }

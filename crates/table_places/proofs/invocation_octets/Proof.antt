@@ -1,86 +1,76 @@
-use mathlib.Core.Path.{refl}
-use Rattle.table_places.proofs.Writing.{pair-then}
+use native.Mathlib.Omega.{arith}
+use mathlib.Core.Path.{_≡_, refl}
+use Prim.Native.Nat.{_-_, _≤_}
+use Rattle.paper.specs.Invocations.{noInvocation}
+use Rattle.table_places.specs.Made.{madeInvocation}
+use Rattle.table_places.proofs.Writing.{made, made-none, made-more, made-all}
 use borrow.Author.Needs.{needs}
 use Rattle.table_places.proofs.invocation_octets.Statement.{statement}
 use Rattle.table_places.proofs.invocation_octets.Tie as tie
 
-element-copy-out-t5 : tie.Need-element-copy-out-t5
-element-copy-out-t5 c = search needs
+abbrev Inv-loop : tie.InvT-loop
+Inv-loop l o₀ i₀ o i = (i ≤ 8) × (o ≡ made (λ v. v .id) madeInvocation noInvocation 8 l i)
 
-invocation-mark-requires : tie.Need-invocation-mark-requires
+abbrev μ-loop : tie.MeasureT-loop
+μ-loop l o₀ i₀ o i = 8 - i
+
+loop-holds : tie.Need-loop-holds Inv-loop μ-loop
+loop-holds c = (omega arith, made-none (λ v. v .id) madeInvocation noInvocation 8 _)
+
+mul-v : tie.Need-mul-v Inv-loop μ-loop
+mul-v c = search needs
+
+array-copy-out-v : tie.Need-array-copy-out-v Inv-loop μ-loop
+array-copy-out-v c = search needs
+
+mul-o : tie.Need-mul-o Inv-loop μ-loop
+mul-o c = search needs
+
+array-write-o : tie.Need-array-write-o Inv-loop μ-loop
+array-write-o c = search needs
+
+invocation-mark-requires : tie.Need-invocation-mark-requires Inv-loop μ-loop
 invocation-mark-requires c κs = search needs
 
-element-copy-out-t10 : tie.Need-element-copy-out-t10
-element-copy-out-t10 c = search needs
+mul-o-2 : tie.Need-mul-o-2 Inv-loop μ-loop
+mul-o-2 c = search needs
 
-invocation-mark-requires-2 : tie.Need-invocation-mark-requires-2
-invocation-mark-requires-2 c κs = search needs
+add-o : tie.Need-add-o Inv-loop μ-loop
+add-o c = search needs
 
-element-copy-out-t15 : tie.Need-element-copy-out-t15
-element-copy-out-t15 c = search needs
+array-write-o-2 : tie.Need-array-write-o-2 Inv-loop μ-loop
+array-write-o-2 c = search needs
 
-invocation-mark-requires-3 : tie.Need-invocation-mark-requires-3
-invocation-mark-requires-3 c κs = search needs
+add-i : tie.Need-add-i Inv-loop μ-loop
+add-i c = search needs
 
-element-copy-out-t20 : tie.Need-element-copy-out-t20
-element-copy-out-t20 c = search needs
+loop-less : tie.Need-loop-less Inv-loop μ-loop
+loop-less c = search needs
 
-invocation-mark-requires-4 : tie.Need-invocation-mark-requires-4
-invocation-mark-requires-4 c κs = search needs
+loop-again : tie.Need-loop-again Inv-loop μ-loop
+loop-again c =
+    let b = c .before .before .before in
+    (omega arith, made-more _ _ _ _ _ (b .loop .inv .1) (omega arith) refl (c .invocation-mark .ensures))
 
-element-copy-out-t25 : tie.Need-element-copy-out-t25
-element-copy-out-t25 c = search needs
-
-invocation-mark-requires-5 : tie.Need-invocation-mark-requires-5
-invocation-mark-requires-5 c κs = search needs
-
-element-copy-out-t30 : tie.Need-element-copy-out-t30
-element-copy-out-t30 c = search needs
-
-invocation-mark-requires-6 : tie.Need-invocation-mark-requires-6
-invocation-mark-requires-6 c κs = search needs
-
-element-copy-out-t35 : tie.Need-element-copy-out-t35
-element-copy-out-t35 c = search needs
-
-invocation-mark-requires-7 : tie.Need-invocation-mark-requires-7
-invocation-mark-requires-7 c κs = search needs
-
-element-copy-out-t40 : tie.Need-element-copy-out-t40
-element-copy-out-t40 c = search needs
-
-invocation-mark-requires-8 : tie.Need-invocation-mark-requires-8
-invocation-mark-requires-8 c κs = search needs
-
-returns : tie.Need-returns
-returns c =
-    pair-then refl (c .before .before .before .before .before .before .before .invocation-mark .ensures)
-    (pair-then refl (c .before .before .before .before .before .before .invocation-mark2 .ensures)
-    (pair-then refl (c .before .before .before .before .before .invocation-mark3 .ensures)
-    (pair-then refl (c .before .before .before .before .invocation-mark4 .ensures)
-    (pair-then refl (c .before .before .before .invocation-mark5 .ensures)
-    (pair-then refl (c .before .before .invocation-mark6 .ensures)
-    (pair-then refl (c .before .invocation-mark7 .ensures)
-    (pair-then refl (c .invocation-mark8 .ensures) refl)))))))
+returns : tie.Need-returns Inv-loop μ-loop
+returns c = made-all _ _ _ _ _ (c .before .loop .inv .1) (λ j h k. absurd (omega arith))
 
 pub invocation-octets-spec : {M : Type 1} → statement M
 invocation-octets-spec =
     tie.close
     (tie.spec
-    element-copy-out-t5
+    Inv-loop
+    μ-loop
+    loop-holds
+    mul-v
+    array-copy-out-v
+    mul-o
+    array-write-o
     invocation-mark-requires
-    element-copy-out-t10
-    invocation-mark-requires-2
-    element-copy-out-t15
-    invocation-mark-requires-3
-    element-copy-out-t20
-    invocation-mark-requires-4
-    element-copy-out-t25
-    invocation-mark-requires-5
-    element-copy-out-t30
-    invocation-mark-requires-6
-    element-copy-out-t35
-    invocation-mark-requires-7
-    element-copy-out-t40
-    invocation-mark-requires-8
+    mul-o-2
+    add-o
+    array-write-o-2
+    add-i
+    loop-less
+    loop-again
     returns)

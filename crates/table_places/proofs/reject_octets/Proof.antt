@@ -1,86 +1,84 @@
-use mathlib.Core.Path.{refl}
-use Rattle.table_places.proofs.Writing.{pair-then}
+use native.Mathlib.Omega.{arith}
+use mathlib.Core.Path.{_≡_}
+use Prim.Native.Nat.{_-_, _%_, _≤_}
+use Rattle.paper.specs.Dialogues.{noReject}
+use Rattle.table_places.specs.Made.{madeReject}
+use Rattle.table_places.proofs.Writing.{made, made-none, made-more, made-all}
 use borrow.Author.Needs.{needs}
 use Rattle.table_places.proofs.reject_octets.Statement.{statement}
 use Rattle.table_places.proofs.reject_octets.Tie as tie
 
-reject-id-requires : tie.Need-reject-id-requires
-reject-id-requires c κs = search needs
+abbrev Inv-loop : tie.InvT-loop
+Inv-loop n l o₀ end i₀ o i = (i ≤ n) × (o ≡ made (λ r. r .id % 256) madeReject noReject 8 l i)
 
-reject-mark-requires : tie.Need-reject-mark-requires
+abbrev μ-loop : tie.MeasureT-loop
+μ-loop n l o₀ end i₀ o i = n - i
+
+wide-requires : tie.Need-wide-requires Inv-loop μ-loop
+wide-requires c κs = search needs
+
+loop-holds : tie.Need-loop-holds Inv-loop μ-loop
+loop-holds c = (omega arith, made-none (λ r. r .id % 256) madeReject noReject 8 _)
+
+mul-v : tie.Need-mul-v Inv-loop μ-loop
+mul-v c = search needs
+
+array-copy-out-v : tie.Need-array-copy-out-v Inv-loop μ-loop
+array-copy-out-v c = search needs
+
+low-requires : tie.Need-low-requires Inv-loop μ-loop
+low-requires c κs = search needs
+
+mul-o : tie.Need-mul-o Inv-loop μ-loop
+mul-o c = search needs
+
+array-write-o : tie.Need-array-write-o Inv-loop μ-loop
+array-write-o c = search needs
+
+reject-mark-requires : tie.Need-reject-mark-requires Inv-loop μ-loop
 reject-mark-requires c κs = search needs
 
-reject-id-requires-2 : tie.Need-reject-id-requires-2
-reject-id-requires-2 c κs = search needs
+mul-o-2 : tie.Need-mul-o-2 Inv-loop μ-loop
+mul-o-2 c = search needs
 
-reject-mark-requires-2 : tie.Need-reject-mark-requires-2
-reject-mark-requires-2 c κs = search needs
+add-o : tie.Need-add-o Inv-loop μ-loop
+add-o c = search needs
 
-reject-id-requires-3 : tie.Need-reject-id-requires-3
-reject-id-requires-3 c κs = search needs
+array-write-o-2 : tie.Need-array-write-o-2 Inv-loop μ-loop
+array-write-o-2 c = search needs
 
-reject-mark-requires-3 : tie.Need-reject-mark-requires-3
-reject-mark-requires-3 c κs = search needs
+add-i : tie.Need-add-i Inv-loop μ-loop
+add-i c = search needs
 
-reject-id-requires-4 : tie.Need-reject-id-requires-4
-reject-id-requires-4 c κs = search needs
+loop-less : tie.Need-loop-less Inv-loop μ-loop
+loop-less c = search needs
 
-reject-mark-requires-4 : tie.Need-reject-mark-requires-4
-reject-mark-requires-4 c κs = search needs
+loop-again : tie.Need-loop-again Inv-loop μ-loop
+loop-again c =
+    let b = c .before .before .before .before in
+    (omega arith, made-more _ _ _ _ _ (b .loop .inv .1) (omega arith) (c .before .low .ensures) (c .reject-mark .ensures))
 
-reject-id-requires-5 : tie.Need-reject-id-requires-5
-reject-id-requires-5 c κs = search needs
-
-reject-mark-requires-5 : tie.Need-reject-mark-requires-5
-reject-mark-requires-5 c κs = search needs
-
-reject-id-requires-6 : tie.Need-reject-id-requires-6
-reject-id-requires-6 c κs = search needs
-
-reject-mark-requires-6 : tie.Need-reject-mark-requires-6
-reject-mark-requires-6 c κs = search needs
-
-reject-id-requires-7 : tie.Need-reject-id-requires-7
-reject-id-requires-7 c κs = search needs
-
-reject-mark-requires-7 : tie.Need-reject-mark-requires-7
-reject-mark-requires-7 c κs = search needs
-
-reject-id-requires-8 : tie.Need-reject-id-requires-8
-reject-id-requires-8 c κs = search needs
-
-reject-mark-requires-8 : tie.Need-reject-mark-requires-8
-reject-mark-requires-8 c κs = search needs
-
-returns : tie.Need-returns
-returns c =
-    pair-then (c .before .before .before .before .before .before .before .before .before .before .before .before .before .before .before .reject-id .ensures) (c .before .before .before .before .before .before .before .before .before .before .before .before .before .before .reject-mark .ensures)
-    (pair-then (c .before .before .before .before .before .before .before .before .before .before .before .before .before .reject-id2 .ensures) (c .before .before .before .before .before .before .before .before .before .before .before .before .reject-mark2 .ensures)
-    (pair-then (c .before .before .before .before .before .before .before .before .before .before .before .reject-id3 .ensures) (c .before .before .before .before .before .before .before .before .before .before .reject-mark3 .ensures)
-    (pair-then (c .before .before .before .before .before .before .before .before .before .reject-id4 .ensures) (c .before .before .before .before .before .before .before .before .reject-mark4 .ensures)
-    (pair-then (c .before .before .before .before .before .before .before .reject-id5 .ensures) (c .before .before .before .before .before .before .reject-mark5 .ensures)
-    (pair-then (c .before .before .before .before .before .reject-id6 .ensures) (c .before .before .before .before .reject-mark6 .ensures)
-    (pair-then (c .before .before .before .reject-id7 .ensures) (c .before .before .reject-mark7 .ensures)
-    (pair-then (c .before .reject-id8 .ensures) (c .reject-mark8 .ensures) refl)))))))
+returns : tie.Need-returns Inv-loop μ-loop
+returns c = made-all _ _ _ _ _ (c .before .loop .inv .1) (λ j h k. c .before .before .before .pre .1 .rest j (omega arith) (omega arith))
 
 pub reject-octets-spec : {M : Type 1} → statement M
 reject-octets-spec =
     tie.close
     (tie.spec
-    reject-id-requires
+    Inv-loop
+    μ-loop
+    wide-requires
+    loop-holds
+    mul-v
+    array-copy-out-v
+    low-requires
+    mul-o
+    array-write-o
     reject-mark-requires
-    reject-id-requires-2
-    reject-mark-requires-2
-    reject-id-requires-3
-    reject-mark-requires-3
-    reject-id-requires-4
-    reject-mark-requires-4
-    reject-id-requires-5
-    reject-mark-requires-5
-    reject-id-requires-6
-    reject-mark-requires-6
-    reject-id-requires-7
-    reject-mark-requires-7
-    reject-id-requires-8
-    reject-mark-requires-8
+    mul-o-2
+    add-o
+    array-write-o-2
+    add-i
+    loop-less
+    loop-again
     returns)
