@@ -17,7 +17,7 @@ use Rattle.paper.specs.Sizes.{placesInAll, mostInvocations, mostRejects}
 use Rattle.paper.specs.Problems.{kindOf, codeOf}
 use Rattle.paper.specs.Invocations.{noInvocation}
 use Rattle.paper.specs.Dialogues.{Place, noReject}
-use Rattle.paper.specs.Layout.{invocationMark, invocationOctets, rejectMark, waitingRejectOctets, placeFields, placeStart, firstInvocation, firstReject, tableSize}
+use Rattle.paper.specs.Layout.{invocationMark, invocationOctets, rejectMark, waitingRejectOctets, placeFields, invocationsField, waitingField, placeStart, firstInvocation, firstReject, tableSize}
 use Rattle.table_laws.specs.Fine.{FineInvocation, FineControl}
 use Rattle.table_laws.specs.Octets.{SmallReject, rejects-small, controlOctets, controlOctets-length, four-octets}
 use Rattle.table_laws.specs.Stores.{sets-over}
@@ -90,9 +90,9 @@ module _ (c : Control) (n : ℕ) (g : FineControl c) where
       let x : Place = record { control = c; waiting = replicate n 0 } in
       ap (λ (l : List ℕ). headWith c l n ++ (invocationPairs (c .invocations) ++ rejectPairs (c .rejects))) (four-octets (c .peer) (g .four))
       ∙ ap (λ (k : ℕ). headWith c (c .peer) k ++ (invocationPairs (c .invocations) ++ rejectPairs (c .rejects))) (sym (length-replicate n 0))
-      ∙ ap (λ (l : List ℕ). laidOut (take 7 placeFields) x ++ (l ++ rejectPairs (c .rejects))) invocations-made
-      ∙ ap (λ (l : List ℕ). laidOut (take 7 placeFields) x ++ (invocationOctets (c .invocations) ++ l)) rejects-made
-      ∙ sym (laid-split (take 9 placeFields) x 7)
+      ∙ ap (λ (l : List ℕ). laidOut (take invocationsField placeFields) x ++ (l ++ rejectPairs (c .rejects))) invocations-made
+      ∙ ap (λ (l : List ℕ). laidOut (take invocationsField placeFields) x ++ (invocationOctets (c .invocations) ++ l)) rejects-made
+      ∙ sym (laid-split (take waitingField placeFields) x invocationsField)
 
   -- three runs, one after another
   pub control-put : (t u v w H I R : List ℕ) (p i j k : ℕ) → p < placesInAll → length t ≡ tableSize

@@ -1,7 +1,10 @@
 use Rattle.table_rules.specs.Kinds.{headKept}
 use Rattle.laws.specs.If.{yes, no, as-is, at-most, not-at-most, below, not-below}
 use Rattle.laws.specs.Lists.{every}
-use Rattle.paper.specs.Layout.{placeBy}
+use Rattle.paper.specs.Sizes.{services, mostRejects}
+use Rattle.paper.specs.Dialogues.{dialogueActive}
+use Rattle.paper.specs.Layout.{stateAt, serviceAt, countAt, placeBy}
+use lib.ListN.{getD}
 use mathlib.Core.Path.{refl, _∙_}
 use native.Mathlib.Omega.{arith}
 use borrow.Author.Needs.{needs}
@@ -20,7 +23,7 @@ state-requires c κs = search needs
 
 returns : tie.Need-returns
 unfolding headKept every placeBy
-returns c = not-at-most _ _ _ _ (omega arith) refl
+returns c = let s = c .before .before .before .args .rec .now in not-at-most (getD s stateAt 0) dialogueActive _ _ (omega arith) refl
 
 service-requires : tie.Need-service-requires
 service-requires c κs = search needs
@@ -30,7 +33,7 @@ cast-if2 c = search needs
 
 returns-2 : tie.Need-returns-2
 unfolding headKept every placeBy
-returns-2 c = at-most _ _ _ _ (omega arith) (not-below _ _ _ _ (omega arith) refl)
+returns-2 c = let s = c .before .before .before .before .before .args .rec .now in at-most (getD s stateAt 0) dialogueActive _ _ (omega arith) (not-below (getD s serviceAt 0) services _ _ (omega arith) refl)
 
 peer-kept-requires : tie.Need-peer-kept-requires
 peer-kept-requires c κs = search needs
@@ -43,18 +46,18 @@ cast-if4 c = search needs
 
 returns-3 : tie.Need-returns-3
 unfolding headKept every placeBy
-returns-3 c = at-most _ _ _ _ (omega arith) (below _ _ _ _ (omega arith) (yes _ _ _ (cc) (not-at-most _ _ _ _ (omega arith) refl)))
+returns-3 c = let s = c .before .before .before .before .before .before .before .before .before .args .rec .now in at-most (getD s stateAt 0) dialogueActive _ _ (omega arith) (below (getD s serviceAt 0) services _ _ (omega arith) (yes _ _ _ (cc) (not-at-most (getD s countAt 0) mostRejects _ _ (omega arith) refl)))
 
 invocations-kept-requires : tie.Need-invocations-kept-requires
 invocations-kept-requires c κs = search needs
 
 returns-4 : tie.Need-returns-4
 unfolding headKept every placeBy
-returns-4 c = at-most _ _ _ _ (omega arith) (below _ _ _ _ (omega arith) (yes _ _ _ (cc) (at-most _ _ _ _ (omega arith) (c .invocations-kept .ensures ∙ as-is _))))
+returns-4 c = let s = c .before .before .before .before .before .before .before .before .before .before .args .rec .now in at-most (getD s stateAt 0) dialogueActive _ _ (omega arith) (below (getD s serviceAt 0) services _ _ (omega arith) (yes _ _ _ (cc) (at-most (getD s countAt 0) mostRejects _ _ (omega arith) (c .invocations-kept .ensures ∙ as-is _))))
 
 returns-5 : tie.Need-returns-5
 unfolding headKept every placeBy
-returns-5 c = at-most _ _ _ _ (omega arith) (below _ _ _ _ (omega arith) (no _ _ _ (cc) refl))
+returns-5 c = let s = c .before .before .before .before .before .before .before .args .rec .now in at-most (getD s stateAt 0) dialogueActive _ _ (omega arith) (below (getD s serviceAt 0) services _ _ (omega arith) (no _ _ _ (cc) refl))
 
 pub head-kept-spec : {M : Type 1} → statement M
 head-kept-spec =
