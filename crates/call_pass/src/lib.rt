@@ -15,13 +15,12 @@ ghost use mathlib.Core.Path.{_≡_};
 ghost use mathlib.Core.List.{[], _++_};
 ghost use Prim.Native.Nat.{_<_, _≤_};
 ghost use lib.ListN.{length};
-ghost use Rattle.paper.specs.Sizes.{mostWaiting};
+ghost use Rattle.laws.specs.Runs.{Wrote};
+ghost use Rattle.paper.specs.Sizes.{mostWaiting, mostInvocations};
 ghost use Rattle.paper.specs.Components.{noID};
 ghost use Rattle.paper.specs.Problems.{kindOf};
-ghost use Rattle.paper.specs.Writing.{invokeOctets, resultOctets, errorOctets, rejectOctets};
-ghost use Rattle.paper.specs.Invocations.{slotOf};
-ghost use Rattle.paper.specs.Dialogues.{Place, invokeRefusal, resultRefusal, errorRefusal, rejectRefusal, rejectedBy};
-ghost use Rattle.paper.specs.Dialogues.Request.{Invoke, Result, Error, UserReject};
+ghost use Rattle.paper.specs.Invocations.{slotOf, idleSlot, passed};
+ghost use Rattle.paper.specs.Dialogues.{Place, refusal as refusalOf, invokeRefusal, resultRefusal, errorRefusal, rejectRefusal, rejectedBy};
 ghost use Rattle.paper.specs.Calls.{placeAt, withPlace};
 ghost use Rattle.paper.specs.Calls.Call.{OnDialogue};
 ghost use Rattle.paper.specs.Layout.{encode, view};
@@ -29,51 +28,18 @@ ghost use Rattle.paper.specs.Outcome.{Gives, outcome};
 ghost use Rattle.table_places.specs.Storing.{withWaiting};
 ghost use Rattle.call_pass.specs.Appending.{Appending};
 ghost use Rattle.call_pass.specs.Refusing.{frontOf};
+ghost use Rattle.call_pass.specs.Passings.{passing, octetsOf, controlAfter, linkedOf, Acts, Writes, Writing};
 
-// ---- WRITTEN: the control record c, and a component after the n octets that wait
-fn put_invoke(
-    t: &mut [u8],
-    p: usize,
-    c: Control,
-    n: usize,
-    id: u8,
-    linked: u32,
-    op: &[u8],
-    par: &[u8],
-)
-    requires { ⌜ Appending (now t) p c n (invokeOctets id linked (now op) (now par)) × (linked ≤ noID) ⌝ }
-    ensures { λ r. ⌜ now (t .exit) ≡ encode (withPlace (view (now (t .entry))) p (withWaiting c (placeAt (view (now (t .entry))) p .waiting ++ invokeOctets id linked (now (op .entry)) (now (par .entry))))) ⌝ }
-{
-    let a = FIRST_WAITING + p * PLACE_OCTETS;
-    let e = writing_components::write_invoke(t, a + n, id, linked, op, par);
-    table_places::put_control(t, p, c, (e - a) as u8);
-}
-
-fn put_result(t: &mut [u8], p: usize, c: Control, n: usize, tag: u8, id: u8, op: &[u8], par: &[u8])
-    requires { ⌜ Appending (now t) p c n (resultOctets tag id (now op) (now par)) ⌝ }
-    ensures { λ r. ⌜ now (t .exit) ≡ encode (withPlace (view (now (t .entry))) p (withWaiting c (placeAt (view (now (t .entry))) p .waiting ++ resultOctets tag id (now (op .entry)) (now (par .entry))))) ⌝ }
-{
-    let a = FIRST_WAITING + p * PLACE_OCTETS;
-    let e = writing_components::write_result(t, a + n, tag, id, op, par);
-    table_places::put_control(t, p, c, (e - a) as u8);
-}
-
-fn put_error(t: &mut [u8], p: usize, c: Control, n: usize, id: u8, err: &[u8], par: &[u8])
-    requires { ⌜ Appending (now t) p c n (errorOctets id (now err) (now par)) ⌝ }
-    ensures { λ r. ⌜ now (t .exit) ≡ encode (withPlace (view (now (t .entry))) p (withWaiting c (placeAt (view (now (t .entry))) p .waiting ++ errorOctets id (now (err .entry)) (now (par .entry))))) ⌝ }
-{
-    let a = FIRST_WAITING + p * PLACE_OCTETS;
-    let e = writing_components::write_error(t, a + n, id, err, par);
-    table_places::put_control(t, p, c, (e - a) as u8);
-}
-
-fn put_reject(t: &mut [u8], p: usize, c: Control, n: usize, id: u8, problem: u32)
-    requires { ⌜ Appending (now t) p c n (rejectOctets id problem) × (problem < 1024) ⌝ }
-    ensures { λ r. ⌜ now (t .exit) ≡ encode (withPlace (view (now (t .entry))) p (withWaiting c (placeAt (view (now (t .entry))) p .waiting ++ rejectOctets id problem))) ⌝ }
-{
-    let a = FIRST_WAITING + p * PLACE_OCTETS;
-    let e = writing_components::write_reject(t, a + n, id as u32, problem);
-    table_places::put_control(t, p, c, (e - a) as u8);
+// WHAT IS PASSED, by its numbers. The operation or error, and the parameter, stand beside it as octets; a reject has neither.
+pub enum Passing {
+    // ID, linked ID (256 none), class
+    AnInvoke(u8, u32, u32),
+    // tag, last or not last; ID
+    AResult(u8, u8),
+    // ID
+    AnError(u8),
+    // ID, problem as in a row
+    AReject(u8, u32),
 }
 
 // ---- REFUSED, by a place's control record and the number of octets that wait there
@@ -158,9 +124,31 @@ fn reject_refusal(c: Control, n: usize, id: u8, problem: u32) -> u32
     return 9;
 }
 
+fn refusal(c: Control, n: usize, what: Passing, code: &[u8], par: &[u8]) -> u32
+    requires { ⌜ n ≤ mostWaiting ⌝ }
+    ensures { λ r. ⌜ ((x : Place) → x .control ≡ c → length (x .waiting) ≡ n → r ≡ refusalOf x (passing what (now (code .entry)) (now (par .entry)))) ⌝ }
+{
+    match what {
+        Passing::AnInvoke(id, linked, class) => invoke_refusal(c, n, id, linked, class, code, par),
+        Passing::AResult(tag, id) => result_refusal(c, n, tag, id, code, par),
+        Passing::AnError(id) => error_refusal(c, n, id, code, par),
+        Passing::AReject(id, problem) => reject_refusal(c, n, id, problem),
+    }
+}
+
+// ---- DONE: what it does to the control record
+fn invoked(c: Control, id: u8, class: u32) -> Control
+    requires { ⌜ (class ≤ 4) × (idleSlot (c .invocations) ≡ mostInvocations → ⊥) ⌝ }
+    ensures { λ r. ⌜ r ≡ passed c id class ⌝ }
+{
+    let l = c.invocations;
+    let i = dialogue_invocations::idle_slot(l);
+    dialogue_invocations::pass(c, id, class as u8, i)
+}
+
 // "Rejecting until transmitted"; an invoke's reject changes no invocation of ours.
 fn rejected_by(c: Control, id: u8, problem: u32) -> Control
-    requires { ⌜ ((kindOf problem ≡ 1 → ⊥) → slotOf (c .invocations) id < 8) ⌝ }
+    requires { ⌜ ((kindOf problem ≡ 1 → ⊥) → slotOf (c .invocations) id < mostInvocations) ⌝ }
     ensures { λ r. ⌜ r ≡ rejectedBy c id problem ⌝ }
 {
     if problem / 256 == 1 {
@@ -171,19 +159,52 @@ fn rejected_by(c: Control, id: u8, problem: u32) -> Control
     return dialogue_invocations::to_state(c, id as u32, i, REJECTING);
 }
 
-// ---- THE CALLS. An invoke; linked is 256 for none.
-pub fn invoke(
+fn acted(c: Control, what: Passing) -> Control
+    requires { ⌜ Acts what c ⌝ }
+    ensures { λ r. ⌜ r ≡ controlAfter what c ⌝ }
+{
+    match what {
+        Passing::AnInvoke(id, _linked, class) => invoked(c, id, class),
+        Passing::AResult(_tag, _id) => c,
+        Passing::AnError(_id) => c,
+        Passing::AReject(id, problem) => rejected_by(c, id, problem),
+    }
+}
+
+// ---- WRITTEN after the n octets that wait, straight into the table
+fn write(t: &mut [u8], at: usize, what: Passing, code: &[u8], par: &[u8]) -> usize
+    requires { ⌜ Writing (now code) (now par) (now t) at what ⌝ }
+    ensures { λ r. ⌜ Wrote (now (t .entry)) at (octetsOf what (now (code .entry)) (now (par .entry))) r (now (t .exit)) ⌝ }
+{
+    match what {
+        Passing::AnInvoke(id, linked, _class) => writing_components::write_invoke(t, at, id, linked, code, par),
+        Passing::AResult(tag, id) => writing_components::write_result(t, at, tag, id, code, par),
+        Passing::AnError(id) => writing_components::write_error(t, at, id, code, par),
+        Passing::AReject(id, problem) => writing_components::write_reject(t, at, id as u32, problem),
+    }
+}
+
+// The control record c too.
+fn put(t: &mut [u8], p: usize, c: Control, n: usize, what: Passing, code: &[u8], par: &[u8])
+    requires { ⌜ Appending (now t) p c n (octetsOf what (now code) (now par)) × Writes what ⌝ }
+    ensures { λ r. ⌜ now (t .exit) ≡ encode (withPlace (view (now (t .entry))) p (withWaiting c (placeAt (view (now (t .entry))) p .waiting ++ octetsOf what (now (code .entry)) (now (par .entry))))) ⌝ }
+{
+    let a = FIRST_WAITING + p * PLACE_OCTETS;
+    let e = write(t, a + n, what, code, par);
+    table_places::put_control(t, p, c, (e - a) as u8);
+}
+
+// ---- THE CALL
+pub fn pass(
     table: &mut [u8],
     service: u32,
     dialogue: u32,
-    id: u8,
-    linked: u32,
-    class: u32,
-    operation: &[u8],
+    what: Passing,
+    code: &[u8],
     parameter: &[u8],
 ) -> Reply
-    requires { ⌜ linked ≤ noID ⌝ }
-    ensures { λ r. ⌜ Gives (outcome (record { table = now (table .entry); rows = []; space = [] }) (OnDialogue service dialogue (Invoke id linked class (now (operation .entry)) (now (parameter .entry))))) (r .answer) (r .rows) (r .length) (r .dialogue) (record { table = now (table .exit); rows = []; space = [] }) ⌝ }
+    requires { ⌜ linkedOf what ≤ noID ⌝ }
+    ensures { λ r. ⌜ Gives (outcome (record { table = now (table .entry); rows = []; space = [] }) (OnDialogue service dialogue (passing what (now (code .entry)) (now (parameter .entry))))) (r .answer) (r .rows) (r .length) (r .dialogue) (record { table = now (table .exit); rows = []; space = [] }) ⌝ }
 {
     let m = call_entry::enter_at(table, NO_SPACE, NO_SPACE, service, dialogue);
     let answer = m.answer;
@@ -193,87 +214,11 @@ pub fn invoke(
     let p = m.place;
     let c = table_places::load(table, p);
     let n = table_places::waiting_length(table, p);
-    let why = invoke_refusal(c, n, id, linked, class, operation, parameter);
+    let why = refusal(c, n, what, code, parameter);
     if why != 0 {
         return call_entry::refused(why);
     }
-    let l = c.invocations;
-    let i = dialogue_invocations::idle_slot(l);
-    let d = dialogue_invocations::pass(c, id, class as u8, i);
-    put_invoke(table, p, d, n, id, linked, operation, parameter);
-    return call_entry::done(0, 0);
-}
-
-// A result, last or not last by its tag.
-pub fn result(
-    table: &mut [u8],
-    service: u32,
-    dialogue: u32,
-    tag: u8,
-    id: u8,
-    operation: &[u8],
-    parameter: &[u8],
-) -> Reply
-    ensures { λ r. ⌜ Gives (outcome (record { table = now (table .entry); rows = []; space = [] }) (OnDialogue service dialogue (Result tag id (now (operation .entry)) (now (parameter .entry))))) (r .answer) (r .rows) (r .length) (r .dialogue) (record { table = now (table .exit); rows = []; space = [] }) ⌝ }
-{
-    let m = call_entry::enter_at(table, NO_SPACE, NO_SPACE, service, dialogue);
-    let answer = m.answer;
-    if answer != 0 {
-        return call_entry::refused(answer);
-    }
-    let p = m.place;
-    let c = table_places::load(table, p);
-    let n = table_places::waiting_length(table, p);
-    let why = result_refusal(c, n, tag, id, operation, parameter);
-    if why != 0 {
-        return call_entry::refused(why);
-    }
-    put_result(table, p, c, n, tag, id, operation, parameter);
-    return call_entry::done(0, 0);
-}
-
-pub fn error(
-    table: &mut [u8],
-    service: u32,
-    dialogue: u32,
-    id: u8,
-    error: &[u8],
-    parameter: &[u8],
-) -> Reply
-    ensures { λ r. ⌜ Gives (outcome (record { table = now (table .entry); rows = []; space = [] }) (OnDialogue service dialogue (Error id (now (error .entry)) (now (parameter .entry))))) (r .answer) (r .rows) (r .length) (r .dialogue) (record { table = now (table .exit); rows = []; space = [] }) ⌝ }
-{
-    let m = call_entry::enter_at(table, NO_SPACE, NO_SPACE, service, dialogue);
-    let answer = m.answer;
-    if answer != 0 {
-        return call_entry::refused(answer);
-    }
-    let p = m.place;
-    let c = table_places::load(table, p);
-    let n = table_places::waiting_length(table, p);
-    let why = error_refusal(c, n, id, error, parameter);
-    if why != 0 {
-        return call_entry::refused(why);
-    }
-    put_error(table, p, c, n, id, error, parameter);
-    return call_entry::done(0, 0);
-}
-
-pub fn reject(table: &mut [u8], service: u32, dialogue: u32, id: u8, problem: u32) -> Reply
-    ensures { λ r. ⌜ Gives (outcome (record { table = now (table .entry); rows = []; space = [] }) (OnDialogue service dialogue (UserReject id problem))) (r .answer) (r .rows) (r .length) (r .dialogue) (record { table = now (table .exit); rows = []; space = [] }) ⌝ }
-{
-    let m = call_entry::enter_at(table, NO_SPACE, NO_SPACE, service, dialogue);
-    let answer = m.answer;
-    if answer != 0 {
-        return call_entry::refused(answer);
-    }
-    let p = m.place;
-    let c = table_places::load(table, p);
-    let n = table_places::waiting_length(table, p);
-    let why = reject_refusal(c, n, id, problem);
-    if why != 0 {
-        return call_entry::refused(why);
-    }
-    let d = rejected_by(c, id, problem);
-    put_reject(table, p, d, n, id, problem);
+    let d = acted(c, what);
+    put(table, p, d, n, what, code, parameter);
     return call_entry::done(0, 0);
 }

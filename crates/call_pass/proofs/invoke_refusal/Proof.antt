@@ -12,13 +12,13 @@ returns : tie.Need-returns
 returns c =
     let args = c .before .before .before .args in
     let if1 = c .if1 in
-    λ x e f. class-low x (args .n) f (args .id) (args .linked) (args .class) (args .op .now) (args .par .now) (if1 .taken)
+    λ x e f. class-low x (args .id) (args .linked) (args .class) (args .op .now) (args .par .now) (if1 .taken)
 
 returns-2 : tie.Need-returns-2
 returns-2 c =
     let args = c .before .before .before .before .args in
     let if2 = c .if2 in
-    λ x e f. class-high x (args .n) f (args .id) (args .linked) (args .class) (args .op .now) (args .par .now) (if2 .taken)
+    λ x e f. class-high x (args .id) (args .linked) (args .class) (args .op .now) (args .par .now) (if2 .taken)
 
 state-of-requires : tie.Need-state-of-requires
 state-of-requires c κs = search needs
@@ -30,7 +30,7 @@ returns-3 c =
     let if2 = c .before .before .before .if2 in
     let if3 = c .if3 in
     let state-of = c .before .state-of in
-    λ x e f. not-idle x (args .n) f (args .id) (args .linked) (args .class) (args .op .now) (args .par .now) (if1 .left) (if2 .left)
+    λ x e f. not-idle x (args .id) (args .linked) (args .class) (args .op .now) (args .par .now) (if1 .left) (if2 .left)
     (λ q. if3 .taken (state-of .ensures ∙ ap (λ (k : Control). stateOf k (args .id)) (sym e) ∙ q))
 
 idle-slot-requires : tie.Need-idle-slot-requires
@@ -45,7 +45,7 @@ returns-4 c =
     let if4 = c .if4 in
     let state-of = c .before .before .before .state-of in
     let idle-slot = c .before .idle-slot in
-    λ x e f. eight-open x (args .n) f (args .id) (args .linked) (args .class) (args .op .now) (args .par .now) (if1 .left) (if2 .left)
+    λ x e f. eight-open x (args .id) (args .linked) (args .class) (args .op .now) (args .par .now) (if1 .left) (if2 .left)
     (ap (λ (k : Control). stateOf k (args .id)) e ∙ sym (state-of .ensures) ∙ if3 .left) (ap (λ (k : Control). idleSlot (k .invocations)) e ∙ sym (idle-slot .ensures .0) ∙ if4 .taken)
 
 front-of-requires : tie.Need-front-of-requires
@@ -69,9 +69,9 @@ returns-5 c =
     let idle-slot = c .before .before .before .idle-slot in
     let front-of = c .before .front-of in
     let pieces-refusal = c .pieces-refusal in
-    λ x e f. invoke-pieces x (args .n) f (args .id) (args .linked) (args .class) (args .op .now) (args .par .now) (if1 .left) (if2 .left)
+    λ x e f. invoke-pieces x (args .id) (args .linked) (args .class) (args .op .now) (args .par .now) (if1 .left) (if2 .left)
     (ap (λ (k : Control). stateOf k (args .id)) e ∙ sym (state-of .ensures) ∙ if3 .left) (λ q. if4 .left (idle-slot .ensures .0 ∙ ap (λ (k : Control). idleSlot (k .invocations)) (sym e) ∙ q))
-    (pieces-refusal .result) (pieces-refusal .ensures ∙ ap (λ (k : ℕ). piecesRefusal (args .n) k (args .op .now) (args .par .now)) (front-of .ensures))
+    f (pieces-refusal .ensures ∙ ap (λ (k : ℕ). piecesRefusal (args .n) k (args .op .now) (args .par .now)) (front-of .ensures))
 
 pub invoke-refusal-spec : {M : Type 1} → statement M
 invoke-refusal-spec =

@@ -1,8 +1,9 @@
-use Rattle.call_pass.specs.Refusing.{reject-open, not-users, may-not, reject-over, reject-fits}
+use Rattle.call_pass.specs.Refusing.{reject-open, not-users, may-not, reject-room}
 use Rattle.paper.specs.Invocations.{invocationOf, mayReject}
 use Rattle.paper.specs.Problems.{kindOf}
 use Rattle.paper.specs.declared.Control.{Control}
-use mathlib.Core.Path.{sym, ap, _∙_}
+use Rattle.laws.specs.If.{lt, ge}
+use mathlib.Core.Path.{refl, sym, ap, _∙_}
 use borrow.Author.Needs.{needs}
 use Rattle.call_pass.proofs.reject_refusal.Statement.{statement}
 use Rattle.call_pass.proofs.reject_refusal.Tie as tie
@@ -11,7 +12,7 @@ returns : tie.Need-returns
 returns c =
     let args = c .before .before .args in
     let if1 = c .if1 in
-    λ x e f. reject-open x (args .n) f (args .id) (args .problem) (ap (λ (k : Control). k .state) e ∙ if1 .taken)
+    λ x e f. reject-open x (args .id) (args .problem) (ap (λ (k : Control). k .state) e ∙ if1 .taken)
 
 sender-requires : tie.Need-sender-requires
 sender-requires c κs = search needs
@@ -22,7 +23,7 @@ returns-2 c =
     let if1 = c .before .before .if1 in
     let if2 = c .if2 in
     let sender = c .before .sender in
-    λ x e f. not-users x (args .n) f (args .id) (args .problem) (λ q. if1 .left (ap (λ (k : Control). k .state) (sym e) ∙ q)) (λ q. if2 .taken (sender .ensures ∙ q))
+    λ x e f. not-users x (args .id) (args .problem) (λ q. if1 .left (ap (λ (k : Control). k .state) (sym e) ∙ q)) (λ q. if2 .taken (sender .ensures ∙ q))
 
 invocation-of-requires : tie.Need-invocation-of-requires
 invocation-of-requires c κs = search needs
@@ -43,9 +44,9 @@ returns-3 c =
     let sender = c .before .before .before .before .before .before .sender in
     let invocation-of = c .before .before .before .invocation-of in
     let may-reject = c .before .before .may-reject in
-    λ x e f. reject-over x (args .n) f (args .id) (args .problem) (λ q. if1 .left (ap (λ (k : Control). k .state) (sym e) ∙ q)) (sym (sender .ensures) ∙ if2 .left)
+    λ x e f. reject-room x (args .id) (args .problem) (λ q. if1 .left (ap (λ (k : Control). k .state) (sym e) ∙ q)) (sym (sender .ensures) ∙ if2 .left)
     (ap (λ (k : Control). mayReject (kindOf (args .problem)) (invocationOf (k .invocations) (args .id))) e ∙ ap (mayReject (kindOf (args .problem))) (sym (invocation-of .ensures)) ∙ sym (may-reject .ensures) ∙ if3 .taken)
-    (search needs) (if4 .taken)
+    (search needs) f (lt _ _ _ _ (if4 .taken) refl)
 
 returns-4 : tie.Need-returns-4
 returns-4 c =
@@ -57,9 +58,9 @@ returns-4 c =
     let sender = c .before .before .before .before .before .before .sender in
     let invocation-of = c .before .before .before .invocation-of in
     let may-reject = c .before .before .may-reject in
-    λ x e f. reject-fits x (args .n) f (args .id) (args .problem) (λ q. if1 .left (ap (λ (k : Control). k .state) (sym e) ∙ q)) (sym (sender .ensures) ∙ if2 .left)
+    λ x e f. reject-room x (args .id) (args .problem) (λ q. if1 .left (ap (λ (k : Control). k .state) (sym e) ∙ q)) (sym (sender .ensures) ∙ if2 .left)
     (ap (λ (k : Control). mayReject (kindOf (args .problem)) (invocationOf (k .invocations) (args .id))) e ∙ ap (mayReject (kindOf (args .problem))) (sym (invocation-of .ensures)) ∙ sym (may-reject .ensures) ∙ if3 .taken)
-    (search needs) (if4 .left)
+    (search needs) f (ge _ _ _ _ (if4 .left) refl)
 
 returns-5 : tie.Need-returns-5
 returns-5 c =
@@ -70,7 +71,7 @@ returns-5 c =
     let sender = c .before .before .before .before .before .sender in
     let invocation-of = c .before .before .invocation-of in
     let may-reject = c .before .may-reject in
-    λ x e f. may-not x (args .n) f (args .id) (args .problem) (λ q. if1 .left (ap (λ (k : Control). k .state) (sym e) ∙ q)) (sym (sender .ensures) ∙ if2 .left)
+    λ x e f. may-not x (args .id) (args .problem) (λ q. if1 .left (ap (λ (k : Control). k .state) (sym e) ∙ q)) (sym (sender .ensures) ∙ if2 .left)
     (ap (λ (k : Control). mayReject (kindOf (args .problem)) (invocationOf (k .invocations) (args .id))) e ∙ ap (mayReject (kindOf (args .problem))) (sym (invocation-of .ensures)) ∙ sym (may-reject .ensures) ∙ if3 .left)
 
 pub reject-refusal-spec : {M : Type 1} → statement M

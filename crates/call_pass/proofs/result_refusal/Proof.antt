@@ -9,7 +9,7 @@ returns : tie.Need-returns
 returns c =
     let args = c .before .before .before .before .args in
     let if1 = c .if1 in
-    λ x e f. result-open x (args .n) f (args .tag) (args .id) (args .op .now) (args .par .now) (ap (λ (k : Control). k .state) e ∙ if1 .taken)
+    λ x e f. result-open x (args .tag) (args .id) (args .op .now) (args .par .now) (ap (λ (k : Control). k .state) e ∙ if1 .taken)
 
 both-refusal-requires : tie.Need-both-refusal-requires
 both-refusal-requires c κs = search needs
@@ -19,7 +19,7 @@ returns-2 c =
     let args = c .before .before .before .before .before .args in
     let if1 = c .before .if1 in
     let both-refusal = c .both-refusal in
-    λ x e f. result-pieces x (args .n) f (args .tag) (args .id) (args .op .now) (args .par .now) (λ q. if1 .left (ap (λ (k : Control). k .state) (sym e) ∙ q)) (both-refusal .result) (both-refusal .ensures)
+    λ x e f. result-pieces x (args .tag) (args .id) (args .op .now) (args .par .now) (λ q. if1 .left (ap (λ (k : Control). k .state) (sym e) ∙ q)) f (both-refusal .ensures)
 
 pub result-refusal-spec : {M : Type 1} → statement M
 result-refusal-spec = tie.close (tie.spec returns both-refusal-requires returns-2)
