@@ -177,10 +177,22 @@ fn write(t: &mut [u8], at: usize, what: Passing, code: &[u8], par: &[u8]) -> usi
     ensures { λ r. ⌜ Wrote (now (t .entry)) at (octetsOf what (now (code .entry)) (now (par .entry))) r (now (t .exit)) ⌝ }
 {
     match what {
-        Passing::AnInvoke(id, linked, _class) => writing_components::write_invoke(t, at, id, linked, code, par),
+        Passing::AnInvoke(id, linked, _class) => writing_components::write_invoke(
+            t,
+            at,
+            id,
+            linked,
+            code,
+            par,
+        ),
         Passing::AResult(tag, id) => writing_components::write_result(t, at, tag, id, code, par),
         Passing::AnError(id) => writing_components::write_error(t, at, id, code, par),
-        Passing::AReject(id, problem) => writing_components::write_reject(t, at, id as u32, problem),
+        Passing::AReject(id, problem) => writing_components::write_reject(
+            t,
+            at,
+            id as u32,
+            problem,
+        ),
     }
 }
 
