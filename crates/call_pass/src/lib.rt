@@ -6,6 +6,7 @@ use paper::Control;
 use paper::DIALOGUE_OPEN;
 use paper::FIRST_WAITING;
 use paper::IDLE;
+use paper::Invocation;
 use paper::MOST_INVOCATIONS;
 use paper::MOST_WAITING;
 use paper::NO_ID;
@@ -42,7 +43,7 @@ pub enum Passing {
     AReject(u8, u32),
 }
 
-// ---- REFUSED, by a place's control record and the number of octets that wait there
+// ---- REFUSED, by a dialogue's state, its invocations and the number of octets that wait
 fn front_of(linked: u32) -> usize
     ensures { λ r. ⌜ r ≡ frontOf linked ⌝ }
 {
@@ -53,7 +54,7 @@ fn front_of(linked: u32) -> usize
 }
 
 fn invoke_refusal(
-    c: Control,
+    l: [Invocation; 8],
     n: usize,
     id: u8,
     linked: u32,
@@ -62,7 +63,7 @@ fn invoke_refusal(
     par: &[u8],
 ) -> u32
     requires { ⌜ n ≤ mostWaiting ⌝ }
-    ensures { λ r. ⌜ ((x : Place) → x .control ≡ c → length (x .waiting) ≡ n → r ≡ invokeRefusal x id linked class (now (op .entry)) (now (par .entry))) ⌝ }
+    ensures { λ r. ⌜ ((x : Place) → x .control .invocations ≡ l → length (x .waiting) ≡ n → r ≡ invokeRefusal x id linked class (now (op .entry)) (now (par .entry))) ⌝ }
 {
     if class < 1 {
         return 8;
@@ -70,7 +71,6 @@ fn invoke_refusal(
     if class > 4 {
         return 8;
     }
-    let l = c.invocations;
     let state = dialogue_invocations::state_of(l, id as u32);
     if state != IDLE {
         return 9;
@@ -83,37 +83,36 @@ fn invoke_refusal(
     return call_given::pieces_refusal(n, front, op, par);
 }
 
-fn result_refusal(c: Control, n: usize, tag: u8, id: u8, op: &[u8], par: &[u8]) -> u32
+fn result_refusal(state: u8, n: usize, tag: u8, id: u8, op: &[u8], par: &[u8]) -> u32
     requires { ⌜ n ≤ mostWaiting ⌝ }
-    ensures { λ r. ⌜ ((x : Place) → x .control ≡ c → length (x .waiting) ≡ n → r ≡ resultRefusal x tag id (now (op .entry)) (now (par .entry))) ⌝ }
+    ensures { λ r. ⌜ ((x : Place) → x .control .state ≡ state → length (x .waiting) ≡ n → r ≡ resultRefusal x tag id (now (op .entry)) (now (par .entry))) ⌝ }
 {
-    if c.state == DIALOGUE_OPEN {
+    if state == DIALOGUE_OPEN {
         return 6;
     }
     return call_given::both_refusal(n, op, par);
 }
 
-fn error_refusal(c: Control, n: usize, id: u8, err: &[u8], par: &[u8]) -> u32
+fn error_refusal(state: u8, n: usize, id: u8, err: &[u8], par: &[u8]) -> u32
     requires { ⌜ n ≤ mostWaiting ⌝ }
-    ensures { λ r. ⌜ ((x : Place) → x .control ≡ c → length (x .waiting) ≡ n → r ≡ errorRefusal x id (now (err .entry)) (now (par .entry))) ⌝ }
+    ensures { λ r. ⌜ ((x : Place) → x .control .state ≡ state → length (x .waiting) ≡ n → r ≡ errorRefusal x id (now (err .entry)) (now (par .entry))) ⌝ }
 {
-    if c.state == DIALOGUE_OPEN {
+    if state == DIALOGUE_OPEN {
         return 6;
     }
     return call_given::pieces_refusal(n, 3, err, par);
 }
 
-fn reject_refusal(c: Control, n: usize, id: u8, problem: u32) -> u32
+fn reject_refusal(state: u8, l: [Invocation; 8], n: usize, id: u8, problem: u32) -> u32
     requires { ⌜ n ≤ mostWaiting ⌝ }
-    ensures { λ r. ⌜ ((x : Place) → x .control ≡ c → length (x .waiting) ≡ n → r ≡ rejectRefusal x id problem) ⌝ }
+    ensures { λ r. ⌜ ((x : Place) → x .control .state ≡ state → x .control .invocations ≡ l → length (x .waiting) ≡ n → r ≡ rejectRefusal x id problem) ⌝ }
 {
-    if c.state == DIALOGUE_OPEN {
+    if state == DIALOGUE_OPEN {
         return 6;
     }
     if reading_problems::sender(problem / 256, problem % 256) != 1 {
         return 8;
     }
-    let l = c.invocations;
     let v = dialogue_invocations::invocation_of(l, id as u32);
     if dialogue_invocations::may_reject(problem / 256, v) {
         if n + 8 > MOST_WAITING {
@@ -124,15 +123,22 @@ fn reject_refusal(c: Control, n: usize, id: u8, problem: u32) -> u32
     return 9;
 }
 
-fn refusal(c: Control, n: usize, what: Passing, code: &[u8], par: &[u8]) -> u32
+fn refusal(
+    state: u8,
+    l: [Invocation; 8],
+    n: usize,
+    what: Passing,
+    code: &[u8],
+    par: &[u8],
+) -> u32
     requires { ⌜ n ≤ mostWaiting ⌝ }
-    ensures { λ r. ⌜ ((x : Place) → x .control ≡ c → length (x .waiting) ≡ n → r ≡ refusalOf x (passing what (now (code .entry)) (now (par .entry)))) ⌝ }
+    ensures { λ r. ⌜ ((x : Place) → x .control .state ≡ state → x .control .invocations ≡ l → length (x .waiting) ≡ n → r ≡ refusalOf x (passing what (now (code .entry)) (now (par .entry)))) ⌝ }
 {
     match what {
-        Passing::AnInvoke(id, linked, class) => invoke_refusal(c, n, id, linked, class, code, par),
-        Passing::AResult(tag, id) => result_refusal(c, n, tag, id, code, par),
-        Passing::AnError(id) => error_refusal(c, n, id, code, par),
-        Passing::AReject(id, problem) => reject_refusal(c, n, id, problem),
+        Passing::AnInvoke(id, linked, class) => invoke_refusal(l, n, id, linked, class, code, par),
+        Passing::AResult(tag, id) => result_refusal(state, n, tag, id, code, par),
+        Passing::AnError(id) => error_refusal(state, n, id, code, par),
+        Passing::AReject(id, problem) => reject_refusal(state, l, n, id, problem),
     }
 }
 
@@ -226,7 +232,8 @@ pub fn pass(
     let p = m.place;
     let c = table_places::load(table, p);
     let n = table_places::waiting_length(table, p);
-    let why = refusal(c, n, what, code, parameter);
+    let l = c.invocations;
+    let why = refusal(c.state, l, n, what, code, parameter);
     if why != 0 {
         return call_entry::refused(why);
     }

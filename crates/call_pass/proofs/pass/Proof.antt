@@ -51,44 +51,44 @@ same-length-2 c = search needs
 
 returns-2 : tie.Need-returns-2
 returns-2 c =
-    let args = c .before .before .before .before .before .before .before .before .before .before .before .before .before .args in
-    let enter-at = c .before .before .before .before .before .before .before .before .enter-at in
-    let if1 = c .before .before .before .before .before .before .before .if1 in
-    let load = c .before .before .before .before .before .load in
-    let waiting-length = c .before .before .before .waiting-length in
+    let args = c .before .before .before .before .before .before .before .before .before .before .before .before .before .before .args in
+    let enter-at = c .before .before .before .before .before .before .before .before .before .enter-at in
+    let if1 = c .before .before .before .before .before .before .before .before .if1 in
+    let load = c .before .before .before .before .before .before .load in
+    let waiting-length = c .before .before .before .before .waiting-length in
     let refusal = c .before .before .refusal in
     let if2 = c .before .if2 in
     let refused2 = c .refused2 in
     let m = meets-as (passing-spaces (args .code .now) (args .parameter .now) (args .what)) (enter-at .ensures) in
     let x = placeAt (view (args .table .now)) (enter-at .result .place) in
     dialogue-no (only (args .table .now)) (args .service) (args .dialogue) (passing (args .what) (args .code .now) (args .parameter .now)) (enter-at .result .place) (m .inside (if1 .left))
-    (refusal .result) (refusal .ensures x (sym (load .ensures)) (sym (waiting-length .ensures .0))) (omega (arith, if2)) (refused2 .ensures)
+    (refusal .result) (refusal .ensures x (sym (ap (λ (k : Control). k .state) (load .ensures))) (sym (ap (λ (k : Control). k .invocations) (load .ensures))) (sym (waiting-length .ensures .0))) (omega (arith, if2)) (refused2 .ensures)
 
 acted-requires : tie.Need-acted-requires
 acted-requires c κs =
-    let args = c .before .before .before .before .before .before .before .before .before .before .before .before .args in
-    let enter-at = c .before .before .before .before .before .before .before .enter-at in
-    let if1 = c .before .before .before .before .before .before .if1 in
-    let load = c .before .before .before .before .load in
-    let waiting-length = c .before .before .waiting-length in
+    let args = c .before .before .before .before .before .before .before .before .before .before .before .before .before .args in
+    let enter-at = c .before .before .before .before .before .before .before .before .enter-at in
+    let if1 = c .before .before .before .before .before .before .before .if1 in
+    let load = c .before .before .before .before .before .load in
+    let waiting-length = c .before .before .before .waiting-length in
     let refusal = c .before .refusal in
     let if2 = c .if2 in
     let x = placeAt (view (args .table .now)) (enter-at .result .place) in
-    subst (Acts (args .what)) (sym (load .ensures)) (acts (args .code .now) (args .parameter .now) x (args .what) (enter-at .ensures .inside (if1 .left) .used .fine .control .eight) (sym (if2 .left) ∙ refusal .ensures x (sym (load .ensures)) (sym (waiting-length .ensures .0))))
+    subst (Acts (args .what)) (sym (load .ensures)) (acts (args .code .now) (args .parameter .now) x (args .what) (enter-at .ensures .inside (if1 .left) .used .fine .control .eight) (sym (if2 .left) ∙ refusal .ensures x (sym (ap (λ (k : Control). k .state) (load .ensures))) (sym (ap (λ (k : Control). k .invocations) (load .ensures))) (sym (waiting-length .ensures .0))))
 
 put-requires : tie.Need-put-requires
 put-requires c κs =
-    let args = c .before .before .before .before .before .before .before .before .before .before .before .before .before .before .args in
-    let pre = c .before .before .before .before .before .before .before .before .before .before .before .before .before .before .pre in
-    let enter-at = c .before .before .before .before .before .before .before .before .before .enter-at in
-    let if1 = c .before .before .before .before .before .before .before .before .if1 in
-    let load = c .before .before .before .before .before .before .load in
-    let waiting-length = c .before .before .before .before .waiting-length in
+    let args = c .before .before .before .before .before .before .before .before .before .before .before .before .before .before .before .args in
+    let pre = c .before .before .before .before .before .before .before .before .before .before .before .before .before .before .before .pre in
+    let enter-at = c .before .before .before .before .before .before .before .before .before .before .enter-at in
+    let if1 = c .before .before .before .before .before .before .before .before .before .if1 in
+    let load = c .before .before .before .before .before .before .before .load in
+    let waiting-length = c .before .before .before .before .before .waiting-length in
     let refusal = c .before .before .before .refusal in
     let if2 = c .before .before .if2 in
     let acted = c .before .acted in
     let x = placeAt (view (args .table .now)) (enter-at .result .place) in
-    let e = sym (if2 .left) ∙ refusal .ensures x (sym (load .ensures)) (sym (waiting-length .ensures .0)) in
+    let e = sym (if2 .left) ∙ refusal .ensures x (sym (ap (λ (k : Control). k .state) (load .ensures))) (sym (ap (λ (k : Control). k .invocations) (load .ensures))) (sym (waiting-length .ensures .0)) in
     (appends (args .code .now) (args .parameter .now) (args .what) (enter-at .ensures .inside (if1 .left) .used) (load .ensures) (waiting-length .ensures .0) e (acted .ensures), writes (args .code .now) (args .parameter .now) x (args .what) pre e)
 
 done-requires : tie.Need-done-requires
@@ -99,11 +99,11 @@ same-length-3 c = search needs
 
 returns-3 : tie.Need-returns-3
 returns-3 c =
-    let args = c .before .before .before .before .before .before .before .before .before .before .before .before .before .before .before .before .before .before .args in
-    let enter-at = c .before .before .before .before .before .before .before .before .before .before .before .before .before .enter-at in
-    let if1 = c .before .before .before .before .before .before .before .before .before .before .before .before .if1 in
-    let load = c .before .before .before .before .before .before .before .before .before .before .load in
-    let waiting-length = c .before .before .before .before .before .before .before .before .waiting-length in
+    let args = c .before .before .before .before .before .before .before .before .before .before .before .before .before .before .before .before .before .before .before .args in
+    let enter-at = c .before .before .before .before .before .before .before .before .before .before .before .before .before .before .enter-at in
+    let if1 = c .before .before .before .before .before .before .before .before .before .before .before .before .before .if1 in
+    let load = c .before .before .before .before .before .before .before .before .before .before .before .load in
+    let waiting-length = c .before .before .before .before .before .before .before .before .before .waiting-length in
     let refusal = c .before .before .before .before .before .before .before .refusal in
     let if2 = c .before .before .before .before .before .before .if2 in
     let acted = c .before .before .before .before .before .acted in
@@ -112,7 +112,7 @@ returns-3 c =
     let m = meets-as (passing-spaces (args .code .now) (args .parameter .now) (args .what)) (enter-at .ensures) in
     let x = placeAt (view (args .table .now)) (enter-at .result .place) in
     pass-done (args .table .now) (args .service) (args .dialogue) (args .what) (args .code .now) (args .parameter .now) (enter-at .result .place) (m .inside (if1 .left))
-    (sym (if2 .left) ∙ refusal .ensures x (sym (load .ensures)) (sym (waiting-length .ensures .0))) (acted .ensures ∙ ap (controlAfter (args .what)) (load .ensures)) (done .ensures) (put .ensures)
+    (sym (if2 .left) ∙ refusal .ensures x (sym (ap (λ (k : Control). k .state) (load .ensures))) (sym (ap (λ (k : Control). k .invocations) (load .ensures))) (sym (waiting-length .ensures .0))) (acted .ensures ∙ ap (controlAfter (args .what)) (load .ensures)) (done .ensures) (put .ensures)
 
 pub pass-spec : {M : Type 1} → statement M
 pass-spec =

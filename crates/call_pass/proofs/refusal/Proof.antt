@@ -34,25 +34,25 @@ returns : tie.Need-returns
 unfolding refusal
 returns c =
     let args = c .before .before .before .before .before .before .args in
-    λ x e f. c .invoke-refusal .ensures x e f ∙ ap (λ (w : Passing). refusal x (passing w (args .code .now) (args .par .now))) (sym (c .before .before .what .given .1))
+    λ x s e f. c .invoke-refusal .ensures x e f ∙ ap (λ (w : Passing). refusal x (passing w (args .code .now) (args .par .now))) (sym (c .before .before .what .given .1))
 
 returns-2 : tie.Need-returns-2
 unfolding refusal
 returns-2 c =
     let args = c .before .before .before .before .before .before .args in
-    λ x e f. c .result-refusal .ensures x e f ∙ ap (λ (w : Passing). refusal x (passing w (args .code .now) (args .par .now))) (sym (c .before .before .what2 .given .1))
+    λ x s e f. c .result-refusal .ensures x s f ∙ ap (λ (w : Passing). refusal x (passing w (args .code .now) (args .par .now))) (sym (c .before .before .what2 .given .1))
 
 returns-3 : tie.Need-returns-3
 unfolding refusal
 returns-3 c =
     let args = c .before .before .before .before .before .before .args in
-    λ x e f. c .error-refusal .ensures x e f ∙ ap (λ (w : Passing). refusal x (passing w (args .code .now) (args .par .now))) (sym (c .before .before .what3 .given .1))
+    λ x s e f. c .error-refusal .ensures x s f ∙ ap (λ (w : Passing). refusal x (passing w (args .code .now) (args .par .now))) (sym (c .before .before .what3 .given .1))
 
 returns-4 : tie.Need-returns-4
 unfolding refusal
 returns-4 c =
     let args = c .before .before .before .before .before .before .args in
-    λ x e f. c .reject-refusal .ensures x e f ∙ ap (λ (w : Passing). refusal x (passing w (args .code .now) (args .par .now))) (sym (c .before .before .what4 .given .1))
+    λ x s e f. c .reject-refusal .ensures x s e f ∙ ap (λ (w : Passing). refusal x (passing w (args .code .now) (args .par .now))) (sym (c .before .before .what4 .given .1))
 
 pub refusal-spec : {M : Type 1} → statement M
 refusal-spec =
