@@ -3,13 +3,15 @@ use mathlib.Core.Path.{_≡_, refl, sym, ap, subst, _∙_}
 use mathlib.Core.List.{List, [], _++_}
 use Prim.Native.Nat.{ℕ, _+_, _<_, _≤_}
 use native.Mathlib.Omega.{arith}
-use lib.ListN.{length}
+use lib.ListN.{length, set}
+use Rattle.laws.specs.If.{ifEq, eq, ne, by-eq}
+use Rattle.paper.specs.declared.Invocation.{Invocation}
 use Rattle.paper.specs.declared.Control.{Control}
 use Rattle.paper.specs.Sizes.{mostInvocations, mostWaiting}
 use Rattle.paper.specs.Components.{noID}
 use Rattle.paper.specs.Problems.{kindOf, codeOf}
 use Rattle.paper.specs.Writing.{invokeOctets, resultOctets, errorOctets, rejectOctets}
-use Rattle.paper.specs.Invocations.{slotOf, idleSlot, invocationOf, passed}
+use Rattle.paper.specs.Invocations.{rejecting, newOne, slotOf, idleSlot, invocationOf, inState, withInvocations, toState, passed}
 use Rattle.paper.specs.Dialogues.{Place, Request, Done, done, refusal, does, rejectedBy}
 use Rattle.paper.specs.Dialogues.Request.{Invoke, Result, Error, UserReject}
 use Rattle.paper.specs.Calls.{placeAt, withPlace}
@@ -39,11 +41,26 @@ octetsOf (AResult tag id) code par = resultOctets tag id code par
 octetsOf (AnError id) code par = errorOctets id code par
 octetsOf (AReject id p) code par = rejectOctets id p
 
+-- our invocations after it: a new one; one that goes to Rejecting, where an invoke's reject changes none
+abbrev pub withNew : List Invocation → ℕ → ℕ → List Invocation
+withNew l id class = set l (idleSlot l) (newOne id class)
+
+abbrev pub withRejected : List Invocation → ℕ → ℕ → List Invocation
+withRejected l id p = ifEq (kindOf p) 1 l (set l (slotOf l id) (inState (invocationOf l id) rejecting))
+
+abbrev pub invocationsAfter : List Invocation → Passing → List Invocation
+invocationsAfter l (AnInvoke id linked class) = withNew l id class
+invocationsAfter l (AResult tag id) = l
+invocationsAfter l (AnError id) = l
+invocationsAfter l (AReject id p) = withRejected l id p
+
 abbrev pub controlAfter : Passing → Control → Control
-controlAfter (AnInvoke id linked class) c = passed c id class
-controlAfter (AResult tag id) c = c
-controlAfter (AnError id) c = c
-controlAfter (AReject id p) c = rejectedBy c id p
+controlAfter what c = withInvocations c (invocationsAfter (c .invocations) what)
+
+rejected-is : (c : Control) (id p : ℕ) → rejectedBy c id p ≡ withInvocations c (withRejected (c .invocations) id p)
+unfolding rejectedBy toState
+rejected-is c id p =
+    by-eq {r = rejectedBy c id p} (kindOf p) 1 _ _ refl (λ h e. e ∙ ap (withInvocations c) (eq (kindOf p) 1 _ _ h refl)) (λ h e. e ∙ ap (withInvocations c) (ne (kindOf p) 1 _ _ h refl))
 
 -- the linked ID, 256 where there is none
 abbrev pub linkedOf : Passing → ℕ
@@ -65,12 +82,12 @@ Writing code par t at (AResult tag id) = Room t at (resultSize code par)
 Writing code par t at (AnError id) = Room t at (errorSize code par)
 Writing code par t at (AReject id p) = (kindOf p < 4) × (at + rejectSize id ≤ length t)
 
--- what its act asks of the control record: a slot for an invoke, the slot of what is rejected
-abbrev pub Acts : Passing → Control → Type 0
-Acts (AnInvoke id linked class) c = (class ≤ 4) × (idleSlot (c .invocations) ≡ mostInvocations → ⊥)
-Acts (AResult tag id) c = Unit
-Acts (AnError id) c = Unit
-Acts (AReject id p) c = (kindOf p ≡ 1 → ⊥) → slotOf (c .invocations) id < mostInvocations
+-- what its act asks of our invocations: a slot for an invoke, the slot of what is rejected
+abbrev pub Acts : List Invocation → Passing → Type 0
+Acts l (AnInvoke id linked class) = (class ≤ 4) × (idleSlot l ≡ mostInvocations → ⊥)
+Acts l (AResult tag id) = Unit
+Acts l (AnError id) = Unit
+Acts l (AReject id p) = (kindOf p ≡ 1 → ⊥) → slotOf l id < mostInvocations
 
 module _ (code par : List ℕ) where
   pub passing-spaces : (what : Passing) → noSpace ≡ spacesOf (passing what code par)
@@ -102,7 +119,7 @@ module _ (code par : List ℕ) where
     writes (AnError id) h e = tt
     writes (AReject id p) h e = user-small (kindOf p) (codeOf p) (reject-in x id p e .0)
 
-    pub acts : (what : Passing) → length (x .control .invocations) ≡ 8 → 0 ≡ refusal x (passing what code par) → Acts what (x .control)
+    pub acts : (what : Passing) → length (x .control .invocations) ≡ 8 → 0 ≡ refusal x (passing what code par) → Acts (x .control .invocations) what
     unfolding refusal
     acts (AnInvoke id linked class) h e = let i = invoke-in x id linked class code par e in (i .0, i .1)
     acts (AResult tag id) h e = tt
@@ -110,21 +127,22 @@ module _ (code par : List ℕ) where
     acts (AReject id p) h e = λ k. slot-there (x .control .invocations) id h (rejectable (kindOf p) (invocationOf (x .control .invocations) id) (reject-in x id p e .1) k)
 
     pub passing-does : (what : Passing) (me : ℕ) → does me x (passing what code par) ≡ done (withWaiting (controlAfter what (x .control)) (x .waiting ++ octetsOf what code par)) [] []
-    unfolding does
+    unfolding does passed
     passing-does (AnInvoke id linked class) me = refl
     passing-does (AResult tag id) me = refl
     passing-does (AnError id) me = refl
-    passing-does (AReject id p) me = refl
+    passing-does (AReject id p) me = ap (λ (k : Control). done (withWaiting k (x .waiting ++ rejectOctets id p)) [] []) (rejected-is (x .control) id p)
 
   module _ {t : List ℕ} {p : ℕ} where
     -- what it leaves can be stored
     stores : (what : Passing) → Used t p → 0 ≡ refusal (placeAt (view t) p) (passing what code par) → Storing 0 t p (controlAfter what (placeAt (view t) p .control))
-    unfolding refusal
+    unfolding refusal passed
     stores (AnInvoke id linked class) u e =
         let i = invoke-in (placeAt (view t) p) id linked class code par e in passed-storing u id class (i .4) (i .3) (i .0)
     stores (AResult tag id) u e = plain-storing u
     stores (AnError id) u e = plain-storing u
-    stores (AReject id q) u e = rejected-storing u id q (reject-in (placeAt (view t) p) id q e .1)
+    stores (AReject id q) u e =
+        subst (Storing 0 t p) (rejected-is (placeAt (view t) p .control) id q) (rejected-storing u id q (reject-in (placeAt (view t) p) id q e .1))
 
     pub appends : (what : Passing) {c d : Control} {n : ℕ} → Used t p → c ≡ placeAt (view t) p .control → n ≡ length (placeAt (view t) p .waiting)
         → 0 ≡ refusal (placeAt (view t) p) (passing what code par) → d ≡ controlAfter what c → Appending t p d n (octetsOf what code par)

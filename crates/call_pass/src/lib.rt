@@ -10,6 +10,7 @@ use paper::Invocation;
 use paper::MOST_INVOCATIONS;
 use paper::MOST_WAITING;
 use paper::NO_ID;
+use paper::PENDING;
 use paper::PLACE_OCTETS;
 use paper::REJECTING;
 ghost use mathlib.Core.Path.{_≡_};
@@ -20,8 +21,8 @@ ghost use Rattle.laws.specs.Runs.{Wrote};
 ghost use Rattle.paper.specs.Sizes.{mostWaiting, mostInvocations};
 ghost use Rattle.paper.specs.Components.{noID};
 ghost use Rattle.paper.specs.Problems.{kindOf};
-ghost use Rattle.paper.specs.Invocations.{slotOf, idleSlot, passed};
-ghost use Rattle.paper.specs.Dialogues.{Place, refusal as refusalOf, invokeRefusal, resultRefusal, errorRefusal, rejectRefusal, rejectedBy};
+ghost use Rattle.paper.specs.Invocations.{slotOf, idleSlot};
+ghost use Rattle.paper.specs.Dialogues.{Place, refusal as refusalOf, invokeRefusal, resultRefusal, errorRefusal, rejectRefusal};
 ghost use Rattle.paper.specs.Calls.{placeAt, withPlace};
 ghost use Rattle.paper.specs.Calls.Call.{OnDialogue};
 ghost use Rattle.paper.specs.Layout.{encode, view};
@@ -29,7 +30,7 @@ ghost use Rattle.paper.specs.Outcome.{Gives, outcome};
 ghost use Rattle.table_places.specs.Storing.{withWaiting};
 ghost use Rattle.call_pass.specs.Appending.{Appending};
 ghost use Rattle.call_pass.specs.Refusing.{frontOf};
-ghost use Rattle.call_pass.specs.Passings.{passing, octetsOf, controlAfter, linkedOf, Acts, Writes, Writing};
+ghost use Rattle.call_pass.specs.Passings.{passing, octetsOf, withNew, withRejected, invocationsAfter, linkedOf, Acts, Writes, Writing};
 
 // WHAT IS PASSED, by its numbers. The operation or error, and the parameter, stand beside it as octets; a reject has neither.
 pub enum Passing {
@@ -142,38 +143,47 @@ fn refusal(
     }
 }
 
-// ---- DONE: what it does to the control record
-fn invoked(c: Control, id: u8, class: u32) -> Control
-    requires { ⌜ (class ≤ 4) × (idleSlot (c .invocations) ≡ mostInvocations → ⊥) ⌝ }
-    ensures { λ r. ⌜ r ≡ passed c id class ⌝ }
+// ---- DONE: what it does to our invocations. One that is passed is Pending, in the first slot that is Idle.
+fn invoked(l: [Invocation; 8], id: u8, class: u32) -> [Invocation; 8]
+    requires { ⌜ (class ≤ 4) × (idleSlot l ≡ mostInvocations → ⊥) ⌝ }
+    ensures { λ r. ⌜ r ≡ withNew l id class ⌝ }
 {
-    let l = c.invocations;
     let i = dialogue_invocations::idle_slot(l);
-    dialogue_invocations::pass(c, id, class as u8, i)
+    let mut m = l;
+    m[i] = Invocation {
+        id,
+        class: class as u8,
+        state: PENDING,
+        shown: 0,
+    };
+    m
 }
 
 // "Rejecting until transmitted"; an invoke's reject changes no invocation of ours.
-fn rejected_by(c: Control, id: u8, problem: u32) -> Control
-    requires { ⌜ ((kindOf problem ≡ 1 → ⊥) → slotOf (c .invocations) id < mostInvocations) ⌝ }
-    ensures { λ r. ⌜ r ≡ rejectedBy c id problem ⌝ }
+fn rejected_by(l: [Invocation; 8], id: u8, problem: u32) -> [Invocation; 8]
+    requires { ⌜ ((kindOf problem ≡ 1 → ⊥) → slotOf l id < mostInvocations) ⌝ }
+    ensures { λ r. ⌜ r ≡ withRejected l id problem ⌝ }
 {
     if problem / 256 == 1 {
-        return c;
+        return l;
     }
-    let l = c.invocations;
     let i = dialogue_invocations::slot_of(l, id as u32);
-    return dialogue_invocations::to_state(c, id as u32, i, REJECTING);
+    let mut v = l[i];
+    v.state = REJECTING;
+    let mut m = l;
+    m[i] = v;
+    m
 }
 
-fn acted(c: Control, what: Passing) -> Control
-    requires { ⌜ Acts what c ⌝ }
-    ensures { λ r. ⌜ r ≡ controlAfter what c ⌝ }
+fn acted(l: [Invocation; 8], what: Passing) -> [Invocation; 8]
+    requires { ⌜ Acts l what ⌝ }
+    ensures { λ r. ⌜ r ≡ invocationsAfter l what ⌝ }
 {
     match what {
-        Passing::AnInvoke(id, _linked, class) => invoked(c, id, class),
-        Passing::AResult(_tag, _id) => c,
-        Passing::AnError(_id) => c,
-        Passing::AReject(id, problem) => rejected_by(c, id, problem),
+        Passing::AnInvoke(id, _linked, class) => invoked(l, id, class),
+        Passing::AResult(_tag, _id) => l,
+        Passing::AnError(_id) => l,
+        Passing::AReject(id, problem) => rejected_by(l, id, problem),
     }
 }
 
@@ -224,20 +234,21 @@ pub fn pass(
     requires { ⌜ linkedOf what ≤ noID ⌝ }
     ensures { λ r. ⌜ Gives (outcome (record { table = now (table .entry); rows = []; space = [] }) (OnDialogue service dialogue (passing what (now (code .entry)) (now (parameter .entry))))) (r .answer) (r .rows) (r .length) (r .dialogue) (record { table = now (table .exit); rows = []; space = [] }) ⌝ }
 {
-    let m = call_entry::enter_at(table, NO_SPACE, NO_SPACE, service, dialogue);
-    let answer = m.answer;
+    let e = call_entry::enter_at(table, NO_SPACE, NO_SPACE, service, dialogue);
+    let answer = e.answer;
     if answer != 0 {
         return call_entry::refused(answer);
     }
-    let p = m.place;
-    let c = table_places::load(table, p);
-    let n = table_places::waiting_length(table, p);
+    let p = e.place;
+    let mut c = table_places::load(table, p);
     let l = c.invocations;
+    let n = table_places::waiting_length(table, p);
     let why = refusal(c.state, l, n, what, code, parameter);
     if why != 0 {
         return call_entry::refused(why);
     }
-    let d = acted(c, what);
-    put(table, p, d, n, what, code, parameter);
+    let m = acted(l, what);
+    c.invocations = m;
+    put(table, p, c, n, what, code, parameter);
     return call_entry::done(0, 0);
 }

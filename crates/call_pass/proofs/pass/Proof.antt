@@ -1,6 +1,7 @@
 use mathlib.Core.Path.{sym, ap, subst, _∙_}
 use native.Mathlib.Omega.{arith}
 use Rattle.paper.specs.declared.Control.{Control}
+use Rattle.paper.specs.Invocations.{withInvocations}
 use Rattle.paper.specs.Calls.{placeAt}
 use Rattle.paper.specs.Layout.{view}
 use Rattle.call_entry.specs.Prologue.{meets-as}
@@ -36,8 +37,8 @@ load-requires c κs =
 
 waiting-length-requires : tie.Need-waiting-length-requires
 waiting-length-requires c κs =
-    let enter-at = c .before .before .before .before .enter-at in
-    let if1 = c .before .before .before .if1 in
+    let enter-at = c .before .before .before .before .before .enter-at in
+    let if1 = c .before .before .before .before .if1 in
     let u = enter-at .ensures .inside (if1 .left) .used in (u .ready, u .small)
 
 refusal-requires : tie.Need-refusal-requires
@@ -55,7 +56,7 @@ returns-2 c =
     let enter-at = c .before .before .before .before .before .before .before .before .before .enter-at in
     let if1 = c .before .before .before .before .before .before .before .before .if1 in
     let load = c .before .before .before .before .before .before .load in
-    let waiting-length = c .before .before .before .before .waiting-length in
+    let waiting-length = c .before .before .before .waiting-length in
     let refusal = c .before .before .refusal in
     let if2 = c .before .if2 in
     let refused2 = c .refused2 in
@@ -70,11 +71,11 @@ acted-requires c κs =
     let enter-at = c .before .before .before .before .before .before .before .before .enter-at in
     let if1 = c .before .before .before .before .before .before .before .if1 in
     let load = c .before .before .before .before .before .load in
-    let waiting-length = c .before .before .before .waiting-length in
+    let waiting-length = c .before .before .waiting-length in
     let refusal = c .before .refusal in
     let if2 = c .if2 in
     let x = placeAt (view (args .table .now)) (enter-at .result .place) in
-    subst (Acts (args .what)) (sym (load .ensures)) (acts (args .code .now) (args .parameter .now) x (args .what) (enter-at .ensures .inside (if1 .left) .used .fine .control .eight) (sym (if2 .left) ∙ refusal .ensures x (sym (ap (λ (k : Control). k .state) (load .ensures))) (sym (ap (λ (k : Control). k .invocations) (load .ensures))) (sym (waiting-length .ensures .0))))
+    subst (λ (k : Control). Acts (k .invocations) (args .what)) (sym (load .ensures)) (acts (args .code .now) (args .parameter .now) x (args .what) (enter-at .ensures .inside (if1 .left) .used .fine .control .eight) (sym (if2 .left) ∙ refusal .ensures x (sym (ap (λ (k : Control). k .state) (load .ensures))) (sym (ap (λ (k : Control). k .invocations) (load .ensures))) (sym (waiting-length .ensures .0))))
 
 put-requires : tie.Need-put-requires
 put-requires c κs =
@@ -83,13 +84,13 @@ put-requires c κs =
     let enter-at = c .before .before .before .before .before .before .before .before .before .before .enter-at in
     let if1 = c .before .before .before .before .before .before .before .before .before .if1 in
     let load = c .before .before .before .before .before .before .before .load in
-    let waiting-length = c .before .before .before .before .before .waiting-length in
+    let waiting-length = c .before .before .before .before .waiting-length in
     let refusal = c .before .before .before .refusal in
     let if2 = c .before .before .if2 in
     let acted = c .before .acted in
     let x = placeAt (view (args .table .now)) (enter-at .result .place) in
     let e = sym (if2 .left) ∙ refusal .ensures x (sym (ap (λ (k : Control). k .state) (load .ensures))) (sym (ap (λ (k : Control). k .invocations) (load .ensures))) (sym (waiting-length .ensures .0)) in
-    (appends (args .code .now) (args .parameter .now) (args .what) (enter-at .ensures .inside (if1 .left) .used) (load .ensures) (waiting-length .ensures .0) e (acted .ensures), writes (args .code .now) (args .parameter .now) x (args .what) pre e)
+    (appends (args .code .now) (args .parameter .now) (args .what) (enter-at .ensures .inside (if1 .left) .used) (load .ensures) (waiting-length .ensures .0) e (ap (withInvocations (load .result)) (acted .ensures)), writes (args .code .now) (args .parameter .now) x (args .what) pre e)
 
 done-requires : tie.Need-done-requires
 done-requires c κs = search needs
@@ -103,7 +104,7 @@ returns-3 c =
     let enter-at = c .before .before .before .before .before .before .before .before .before .before .before .before .before .before .enter-at in
     let if1 = c .before .before .before .before .before .before .before .before .before .before .before .before .before .if1 in
     let load = c .before .before .before .before .before .before .before .before .before .before .before .load in
-    let waiting-length = c .before .before .before .before .before .before .before .before .before .waiting-length in
+    let waiting-length = c .before .before .before .before .before .before .before .before .waiting-length in
     let refusal = c .before .before .before .before .before .before .before .refusal in
     let if2 = c .before .before .before .before .before .before .if2 in
     let acted = c .before .before .before .before .before .acted in
@@ -112,7 +113,7 @@ returns-3 c =
     let m = meets-as (passing-spaces (args .code .now) (args .parameter .now) (args .what)) (enter-at .ensures) in
     let x = placeAt (view (args .table .now)) (enter-at .result .place) in
     pass-done (args .table .now) (args .service) (args .dialogue) (args .what) (args .code .now) (args .parameter .now) (enter-at .result .place) (m .inside (if1 .left))
-    (sym (if2 .left) ∙ refusal .ensures x (sym (ap (λ (k : Control). k .state) (load .ensures))) (sym (ap (λ (k : Control). k .invocations) (load .ensures))) (sym (waiting-length .ensures .0))) (acted .ensures ∙ ap (controlAfter (args .what)) (load .ensures)) (done .ensures) (put .ensures)
+    (sym (if2 .left) ∙ refusal .ensures x (sym (ap (λ (k : Control). k .state) (load .ensures))) (sym (ap (λ (k : Control). k .invocations) (load .ensures))) (sym (waiting-length .ensures .0))) (ap (withInvocations (load .result)) (acted .ensures) ∙ ap (controlAfter (args .what)) (load .ensures)) (done .ensures) (put .ensures)
 
 pub pass-spec : {M : Type 1} → statement M
 pass-spec =
