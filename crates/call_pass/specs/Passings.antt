@@ -1,9 +1,9 @@
 -- WHAT IS PASSED, by its kind: its request and octets, the control record after it, and what stands where it isn't refused. Assumes nothing.
 use mathlib.Core.Path.{_≡_, refl, sym, ap, subst, _∙_}
-use mathlib.Core.List.{List, [], _++_}
+use mathlib.Core.List.{List, [], _∷_, _++_}
 use Prim.Native.Nat.{ℕ, _+_, _<_, _≤_}
 use native.Mathlib.Omega.{arith}
-use lib.ListN.{length, set}
+use lib.ListN.{length, getD, set}
 use Rattle.laws.specs.If.{ifEq, eq, ne, by-eq}
 use Rattle.paper.specs.declared.Invocation.{Invocation}
 use Rattle.paper.specs.declared.Control.{Control}
@@ -11,7 +11,7 @@ use Rattle.paper.specs.Sizes.{mostInvocations, mostWaiting}
 use Rattle.paper.specs.Components.{noID}
 use Rattle.paper.specs.Problems.{kindOf, codeOf}
 use Rattle.paper.specs.Writing.{invokeOctets, resultOctets, errorOctets, rejectOctets}
-use Rattle.paper.specs.Invocations.{rejecting, newOne, slotOf, idleSlot, invocationOf, inState, withInvocations, toState, passed}
+use Rattle.paper.specs.Invocations.{rejecting, noInvocation, newOne, slotOf, idleSlot, invocationOf, inState, withInvocations, toState, passed}
 use Rattle.paper.specs.Dialogues.{Place, Request, Done, done, refusal, does, rejectedBy}
 use Rattle.paper.specs.Dialogues.Request.{Invoke, Result, Error, UserReject}
 use Rattle.paper.specs.Calls.{placeAt, withPlace}
@@ -53,6 +53,15 @@ invocationsAfter l (AnInvoke id linked class) = withNew l id class
 invocationsAfter l (AResult tag id) = l
 invocationsAfter l (AnError id) = l
 invocationsAfter l (AReject id p) = withRejected l id p
+
+-- l is m where slot `at` holds v
+pub record Leaves (l : List Invocation) (at : ℕ) (v : Invocation) (m : List Invocation) : Type 0 where
+  pub slot : at < mostInvocations
+  pub is : set l at v ≡ m
+
+pub same-first : (l : List Invocation) → set l 0 (getD l 0 noInvocation) ≡ l
+same-first [] = refl
+same-first (v ∷ l) = refl
 
 abbrev pub controlAfter : Passing → Control → Control
 controlAfter what c = withInvocations c (invocationsAfter (c .invocations) what)

@@ -30,7 +30,7 @@ ghost use Rattle.paper.specs.Outcome.{Gives, outcome};
 ghost use Rattle.table_places.specs.Storing.{withWaiting};
 ghost use Rattle.call_pass.specs.Appending.{Appending};
 ghost use Rattle.call_pass.specs.Refusing.{frontOf};
-ghost use Rattle.call_pass.specs.Passings.{passing, octetsOf, withNew, withRejected, invocationsAfter, linkedOf, Acts, Writes, Writing};
+ghost use Rattle.call_pass.specs.Passings.{passing, octetsOf, withNew, withRejected, invocationsAfter, Leaves, linkedOf, Acts, Writes, Writing};
 
 // WHAT IS PASSED, by its numbers. The operation or error, and the parameter, stand beside it as octets; a reject has neither.
 pub enum Passing {
@@ -143,46 +143,66 @@ fn refusal(
     }
 }
 
-// ---- DONE: what it does to our invocations. One that is passed is Pending, in the first slot that is Idle.
-fn invoked(l: [Invocation; 8], id: u8, class: u32) -> [Invocation; 8]
+// ---- DONE: one slot of our invocations, and what it holds afterwards
+struct Slot {
+    at: usize,
+    holds: Invocation,
+}
+
+// "Pending (passed)", in the first slot that is Idle.
+fn invoked(l: [Invocation; 8], id: u8, class: u32) -> Slot
     requires { ⌜ (class ≤ 4) × (idleSlot l ≡ mostInvocations → ⊥) ⌝ }
-    ensures { λ r. ⌜ r ≡ withNew l id class ⌝ }
+    ensures { λ r. ⌜ Leaves l (r .at) (r .holds) (withNew l id class) ⌝ }
 {
     let i = dialogue_invocations::idle_slot(l);
-    let mut m = l;
-    m[i] = Invocation {
+    let v = Invocation {
         id,
         class: class as u8,
         state: PENDING,
         shown: 0,
     };
-    m
+    return Slot {
+        at: i,
+        holds: v,
+    };
+}
+
+// None is changed: the first holds what it held.
+fn unchanged(l: [Invocation; 8]) -> Slot
+    ensures { λ r. ⌜ Leaves l (r .at) (r .holds) l ⌝ }
+{
+    let v = l[0];
+    return Slot {
+        at: 0,
+        holds: v,
+    };
 }
 
 // "Rejecting until transmitted"; an invoke's reject changes no invocation of ours.
-fn rejected_by(l: [Invocation; 8], id: u8, problem: u32) -> [Invocation; 8]
+fn rejected_by(l: [Invocation; 8], id: u8, problem: u32) -> Slot
     requires { ⌜ ((kindOf problem ≡ 1 → ⊥) → slotOf l id < mostInvocations) ⌝ }
-    ensures { λ r. ⌜ r ≡ withRejected l id problem ⌝ }
+    ensures { λ r. ⌜ Leaves l (r .at) (r .holds) (withRejected l id problem) ⌝ }
 {
     if problem / 256 == 1 {
-        return l;
+        return unchanged(l);
     }
     let i = dialogue_invocations::slot_of(l, id as u32);
     let mut v = l[i];
     v.state = REJECTING;
-    let mut m = l;
-    m[i] = v;
-    m
+    return Slot {
+        at: i,
+        holds: v,
+    };
 }
 
-fn acted(l: [Invocation; 8], what: Passing) -> [Invocation; 8]
+fn acted(l: [Invocation; 8], what: Passing) -> Slot
     requires { ⌜ Acts l what ⌝ }
-    ensures { λ r. ⌜ r ≡ invocationsAfter l what ⌝ }
+    ensures { λ r. ⌜ Leaves l (r .at) (r .holds) (invocationsAfter l what) ⌝ }
 {
     match what {
         Passing::AnInvoke(id, _linked, class) => invoked(l, id, class),
-        Passing::AResult(_tag, _id) => l,
-        Passing::AnError(_id) => l,
+        Passing::AResult(_tag, _id) => unchanged(l),
+        Passing::AnError(_id) => unchanged(l),
         Passing::AReject(id, problem) => rejected_by(l, id, problem),
     }
 }
@@ -247,8 +267,10 @@ pub fn pass(
     if why != 0 {
         return call_entry::refused(why);
     }
-    let m = acted(l, what);
-    c.invocations = m;
+    let s = acted(l, what);
+    let i = s.at;
+    let v = s.holds;
+    c.invocations[i] = v;
     put(table, p, c, n, what, code, parameter);
     return call_entry::done(0, 0);
 }

@@ -77,20 +77,26 @@ acted-requires c κs =
     let x = placeAt (view (args .table .now)) (enter-at .result .place) in
     subst (λ (k : Control). Acts (k .invocations) (args .what)) (sym (load .ensures)) (acts (args .code .now) (args .parameter .now) x (args .what) (enter-at .ensures .inside (if1 .left) .used .fine .control .eight) (sym (if2 .left) ∙ refusal .ensures x (sym (ap (λ (k : Control). k .state) (load .ensures))) (sym (ap (λ (k : Control). k .invocations) (load .ensures))) (sym (waiting-length .ensures .0))))
 
+mul-v : tie.Need-mul-v
+mul-v c = search needs
+
+element-set-from-v : tie.Need-element-set-from-v
+element-set-from-v c = search needs
+
 put-requires : tie.Need-put-requires
 put-requires c κs =
-    let args = c .before .before .before .before .before .before .before .before .before .before .before .before .before .before .before .args in
-    let pre = c .before .before .before .before .before .before .before .before .before .before .before .before .before .before .before .pre in
-    let enter-at = c .before .before .before .before .before .before .before .before .before .before .enter-at in
-    let if1 = c .before .before .before .before .before .before .before .before .before .if1 in
-    let load = c .before .before .before .before .before .before .before .load in
-    let waiting-length = c .before .before .before .before .waiting-length in
-    let refusal = c .before .before .before .refusal in
-    let if2 = c .before .before .if2 in
-    let acted = c .before .acted in
+    let args = c .before .before .before .before .before .before .before .before .before .before .before .before .before .before .before .before .args in
+    let pre = c .before .before .before .before .before .before .before .before .before .before .before .before .before .before .before .before .pre in
+    let enter-at = c .before .before .before .before .before .before .before .before .before .before .before .enter-at in
+    let if1 = c .before .before .before .before .before .before .before .before .before .before .if1 in
+    let load = c .before .before .before .before .before .before .before .before .load in
+    let waiting-length = c .before .before .before .before .before .waiting-length in
+    let refusal = c .before .before .before .before .refusal in
+    let if2 = c .before .before .before .if2 in
+    let acted = c .before .before .acted in
     let x = placeAt (view (args .table .now)) (enter-at .result .place) in
     let e = sym (if2 .left) ∙ refusal .ensures x (sym (ap (λ (k : Control). k .state) (load .ensures))) (sym (ap (λ (k : Control). k .invocations) (load .ensures))) (sym (waiting-length .ensures .0)) in
-    (appends (args .code .now) (args .parameter .now) (args .what) (enter-at .ensures .inside (if1 .left) .used) (load .ensures) (waiting-length .ensures .0) e (ap (withInvocations (load .result)) (acted .ensures)), writes (args .code .now) (args .parameter .now) x (args .what) pre e)
+    (appends (args .code .now) (args .parameter .now) (args .what) (enter-at .ensures .inside (if1 .left) .used) (load .ensures) (waiting-length .ensures .0) e (ap (withInvocations (load .result)) (acted .ensures .is)), writes (args .code .now) (args .parameter .now) x (args .what) pre e)
 
 done-requires : tie.Need-done-requires
 done-requires c κs = search needs
@@ -100,20 +106,20 @@ same-length-3 c = search needs
 
 returns-3 : tie.Need-returns-3
 returns-3 c =
-    let args = c .before .before .before .before .before .before .before .before .before .before .before .before .before .before .before .before .before .before .before .args in
-    let enter-at = c .before .before .before .before .before .before .before .before .before .before .before .before .before .before .enter-at in
-    let if1 = c .before .before .before .before .before .before .before .before .before .before .before .before .before .if1 in
-    let load = c .before .before .before .before .before .before .before .before .before .before .before .load in
-    let waiting-length = c .before .before .before .before .before .before .before .before .waiting-length in
-    let refusal = c .before .before .before .before .before .before .before .refusal in
-    let if2 = c .before .before .before .before .before .before .if2 in
-    let acted = c .before .before .before .before .before .acted in
+    let args = c .before .before .before .before .before .before .before .before .before .before .before .before .before .before .before .before .before .before .before .before .args in
+    let enter-at = c .before .before .before .before .before .before .before .before .before .before .before .before .before .before .before .enter-at in
+    let if1 = c .before .before .before .before .before .before .before .before .before .before .before .before .before .before .if1 in
+    let load = c .before .before .before .before .before .before .before .before .before .before .before .before .load in
+    let waiting-length = c .before .before .before .before .before .before .before .before .before .waiting-length in
+    let refusal = c .before .before .before .before .before .before .before .before .refusal in
+    let if2 = c .before .before .before .before .before .before .before .if2 in
+    let acted = c .before .before .before .before .before .before .acted in
     let put = c .before .before .before .put in
     let done = c .done in
     let m = meets-as (passing-spaces (args .code .now) (args .parameter .now) (args .what)) (enter-at .ensures) in
     let x = placeAt (view (args .table .now)) (enter-at .result .place) in
     pass-done (args .table .now) (args .service) (args .dialogue) (args .what) (args .code .now) (args .parameter .now) (enter-at .result .place) (m .inside (if1 .left))
-    (sym (if2 .left) ∙ refusal .ensures x (sym (ap (λ (k : Control). k .state) (load .ensures))) (sym (ap (λ (k : Control). k .invocations) (load .ensures))) (sym (waiting-length .ensures .0))) (ap (withInvocations (load .result)) (acted .ensures) ∙ ap (controlAfter (args .what)) (load .ensures)) (done .ensures) (put .ensures)
+    (sym (if2 .left) ∙ refusal .ensures x (sym (ap (λ (k : Control). k .state) (load .ensures))) (sym (ap (λ (k : Control). k .invocations) (load .ensures))) (sym (waiting-length .ensures .0))) (ap (withInvocations (load .result)) (acted .ensures .is) ∙ ap (controlAfter (args .what)) (load .ensures)) (done .ensures) (put .ensures)
 
 pub pass-spec : {M : Type 1} → statement M
 pass-spec =
@@ -130,6 +136,8 @@ pass-spec =
     same-length-2
     returns-2
     acted-requires
+    mul-v
+    element-set-from-v
     put-requires
     done-requires
     same-length-3
