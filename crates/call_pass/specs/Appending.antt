@@ -21,20 +21,20 @@ pub record Appending (t : List ℕ) (p : ℕ) (c : Control) (n : ℕ) (l : List 
   pub waits : n ≡ length (placeAt (view t) p .waiting)
   pub room : n + length l ≤ mostWaiting
 
-module _ (t : List ℕ) (p : ℕ) (c : Control) (n : ℕ) (l : List ℕ) (s : Appending t p c n l) where
+module _ {t : List ℕ} {p : ℕ} {c : Control} {n : ℕ} {l : List ℕ} (s : Appending t p c n l) where
   pub fits : waitingFrom p + n + length l ≤ length t
   fits = omega (arith, s .room, s .storing .small, s .storing .ready .long)
 
   -- where the component is past
-  module _ (q : ℕ) (u : List ℕ) (w : Wrote t (waitingFrom p + n) l q u) where
+  module _ {q : ℕ} {u : List ℕ} (w : Wrote t (waitingFrom p + n) l q u) where
     pub past : (waitingFrom p ≤ q) × (q - (waitingFrom p) ≡ n + length l) × (q - (waitingFrom p) < 256)
     past = (omega (arith, w .past), omega (arith, w .past), omega (arith, w .past, s .room))
 
     pub as-long : length u ≡ tableSize
     as-long = w .long ∙ s .storing .ready .long
 
-    pub appended : (v : List ℕ) → v ≡ over u (placeStart p) (controlOctets c (q - (waitingFrom p))) → v ≡ encode (withPlace (view t) p (withWaiting c (placeAt (view t) p .waiting ++ l)))
-    appended v e =
+    pub appended : {v : List ℕ} → v ≡ over u (placeStart p) (controlOctets c (q - (waitingFrom p))) → v ≡ encode (withPlace (view t) p (withWaiting c (placeAt (view t) p .waiting ++ l)))
+    appended e =
         let k : ℕ = length (placeAt (view t) p .waiting) in
         let a : waitingFrom p + n ≡ placeStart p + (waitingStart + k) = omega (arith, s .waits) in
         let b : q - (waitingFrom p) ≡ k + length l = omega (arith, past .1, s .waits) in

@@ -14,7 +14,7 @@ use paper::PENDING;
 use paper::PLACE_OCTETS;
 use paper::REJECTING;
 ghost use mathlib.Core.Path.{_≡_};
-ghost use mathlib.Core.List.{[], _++_};
+ghost use mathlib.Core.List.{[]};
 ghost use Prim.Native.Nat.{_<_, _≤_};
 ghost use lib.ListN.{length};
 ghost use Rattle.laws.specs.Runs.{Wrote};
@@ -23,14 +23,10 @@ ghost use Rattle.paper.specs.Components.{noID};
 ghost use Rattle.paper.specs.Problems.{kindOf};
 ghost use Rattle.paper.specs.Invocations.{slotOf, idleSlot};
 ghost use Rattle.paper.specs.Dialogues.{Place, refusal as refusalOf, invokeRefusal, resultRefusal, errorRefusal, rejectRefusal};
-ghost use Rattle.paper.specs.Calls.{placeAt, withPlace};
 ghost use Rattle.paper.specs.Calls.Call.{OnDialogue};
-ghost use Rattle.paper.specs.Layout.{encode, view};
 ghost use Rattle.paper.specs.Outcome.{Gives, outcome};
-ghost use Rattle.table_places.specs.Storing.{withWaiting};
-ghost use Rattle.call_pass.specs.Appending.{Appending};
 ghost use Rattle.call_pass.specs.Refusing.{frontOf};
-ghost use Rattle.call_pass.specs.Passings.{passing, octetsOf, withNew, withRejected, invocationsAfter, Leaves, linkedOf, Acts, Writes, Writing};
+ghost use Rattle.call_pass.specs.Passings.{passing, octetsOf, withNew, withRejected, invocationsAfter, Leaves, linkedOf, Acts, Writing};
 
 // WHAT IS PASSED, by its numbers. The operation or error, and the parameter, stand beside it as octets; a reject has neither.
 pub enum Passing {
@@ -232,16 +228,6 @@ fn write(t: &mut [u8], at: usize, what: Passing, code: &[u8], par: &[u8]) -> usi
     }
 }
 
-// The control record c too.
-fn put(t: &mut [u8], p: usize, c: Control, n: usize, what: Passing, code: &[u8], par: &[u8])
-    requires { ⌜ Appending (now t) p c n (octetsOf what (now code) (now par)) × Writes what ⌝ }
-    ensures { λ r. ⌜ now (t .exit) ≡ encode (withPlace (view (now (t .entry))) p (withWaiting c (placeAt (view (now (t .entry))) p .waiting ++ octetsOf what (now (code .entry)) (now (par .entry))))) ⌝ }
-{
-    let a = FIRST_WAITING + p * PLACE_OCTETS;
-    let e = write(t, a + n, what, code, par);
-    table_places::put_control(t, p, c, (e - a) as u8);
-}
-
 // ---- THE CALL
 pub fn pass(
     table: &mut [u8],
@@ -254,12 +240,12 @@ pub fn pass(
     requires { ⌜ linkedOf what ≤ noID ⌝ }
     ensures { λ r. ⌜ Gives (outcome (record { table = now (table .entry); rows = []; space = [] }) (OnDialogue service dialogue (passing what (now (code .entry)) (now (parameter .entry))))) (r .answer) (r .rows) (r .length) (r .dialogue) (record { table = now (table .exit); rows = []; space = [] }) ⌝ }
 {
-    let e = call_entry::enter_at(table, NO_SPACE, NO_SPACE, service, dialogue);
-    let answer = e.answer;
+    let m = call_entry::enter_at(table, NO_SPACE, NO_SPACE, service, dialogue);
+    let answer = m.answer;
     if answer != 0 {
         return call_entry::refused(answer);
     }
-    let p = e.place;
+    let p = m.place;
     let mut c = table_places::load(table, p);
     let l = c.invocations;
     let n = table_places::waiting_length(table, p);
@@ -271,6 +257,8 @@ pub fn pass(
     let i = s.at;
     let v = s.holds;
     c.invocations[i] = v;
-    put(table, p, c, n, what, code, parameter);
+    let a = FIRST_WAITING + p * PLACE_OCTETS;
+    let e = write(table, a + n, what, code, parameter);
+    table_places::put_control(table, p, c, (e - a) as u8);
     return call_entry::done(0, 0);
 }

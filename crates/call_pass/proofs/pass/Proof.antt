@@ -7,7 +7,8 @@ use Rattle.paper.specs.Layout.{view}
 use Rattle.call_entry.specs.Prologue.{meets-as}
 use Rattle.call_entry.specs.Replies.{only}
 use Rattle.call_entry.specs.Ends.{dialogue-refused, dialogue-no}
-use Rattle.call_pass.specs.Passings.{passing, controlAfter, Acts, passing-spaces, writes, acts, appends, pass-done}
+use Rattle.call_pass.specs.Appending.{fits, past, as-long, appended}
+use Rattle.call_pass.specs.Passings.{passing, controlAfter, Acts, passing-spaces, writing, writes, acts, appends, pass-done}
 use borrow.Author.Needs.{needs}
 use Rattle.call_pass.proofs.pass.Statement.{statement}
 use Rattle.call_pass.proofs.pass.Tie as tie
@@ -83,8 +84,27 @@ mul-v c = search needs
 element-set-from-v : tie.Need-element-set-from-v
 element-set-from-v c = search needs
 
-put-requires : tie.Need-put-requires
-put-requires c κs =
+mul-a : tie.Need-mul-a
+mul-a c =
+    let enter-at = c .before .before .before .before .before .before .before .before .before .before .enter-at in
+    let if1 = c .before .before .before .before .before .before .before .before .before .if1 in
+    omega (arith, enter-at .ensures .inside (if1 .left) .used .small)
+
+add-a : tie.Need-add-a
+add-a c =
+    let enter-at = c .before .before .before .before .before .before .before .before .before .before .enter-at in
+    let if1 = c .before .before .before .before .before .before .before .before .before .if1 in
+    omega (arith, enter-at .ensures .inside (if1 .left) .used .small)
+
+add-write : tie.Need-add-write
+add-write c =
+    let enter-at = c .before .before .before .before .before .before .before .before .before .before .before .enter-at in
+    let if1 = c .before .before .before .before .before .before .before .before .before .before .if1 in
+    let waiting-length = c .before .before .before .before .before .waiting-length in
+    omega (arith, enter-at .ensures .inside (if1 .left) .used .small, waiting-length .ensures .1)
+
+write-requires : tie.Need-write-requires
+write-requires c κs =
     let args = c .before .before .before .before .before .before .before .before .before .before .before .before .before .before .before .before .args in
     let pre = c .before .before .before .before .before .before .before .before .before .before .before .before .before .before .before .before .pre in
     let enter-at = c .before .before .before .before .before .before .before .before .before .before .before .enter-at in
@@ -96,7 +116,56 @@ put-requires c κs =
     let acted = c .before .before .acted in
     let x = placeAt (view (args .table .now)) (enter-at .result .place) in
     let e = sym (if2 .left) ∙ refusal .ensures x (sym (ap (λ (k : Control). k .state) (load .ensures))) (sym (ap (λ (k : Control). k .invocations) (load .ensures))) (sym (waiting-length .ensures .0)) in
-    (appends (args .code .now) (args .parameter .now) (args .what) (enter-at .ensures .inside (if1 .left) .used) (load .ensures) (waiting-length .ensures .0) e (ap (withInvocations (load .result)) (acted .ensures .is)), writes (args .code .now) (args .parameter .now) x (args .what) pre e)
+    let s = appends (args .code .now) (args .parameter .now) (args .what) (enter-at .ensures .inside (if1 .left) .used) (load .ensures) (waiting-length .ensures .0) e (ap (withInvocations (load .result)) (acted .ensures .is)) in
+    writing (args .code .now) (args .parameter .now) (args .what) (args .table .now) _ (writes (args .code .now) (args .parameter .now) x (args .what) pre e) (omega (arith, s .room)) (fits s)
+
+sub-put-control : tie.Need-sub-put-control
+sub-put-control c =
+    let args = c .before .before .before .before .before .before .before .before .before .before .before .before .before .before .before .before .before .before .before .before .args in
+    let enter-at = c .before .before .before .before .before .before .before .before .before .before .before .before .before .before .before .enter-at in
+    let if1 = c .before .before .before .before .before .before .before .before .before .before .before .before .before .before .if1 in
+    let load = c .before .before .before .before .before .before .before .before .before .before .before .before .load in
+    let waiting-length = c .before .before .before .before .before .before .before .before .before .waiting-length in
+    let refusal = c .before .before .before .before .before .before .before .before .refusal in
+    let if2 = c .before .before .before .before .before .before .before .if2 in
+    let acted = c .before .before .before .before .before .before .acted in
+    let write = c .before .before .before .write in
+    let x = placeAt (view (args .table .now)) (enter-at .result .place) in
+    let e = sym (if2 .left) ∙ refusal .ensures x (sym (ap (λ (k : Control). k .state) (load .ensures))) (sym (ap (λ (k : Control). k .invocations) (load .ensures))) (sym (waiting-length .ensures .0)) in
+    let s = appends (args .code .now) (args .parameter .now) (args .what) (enter-at .ensures .inside (if1 .left) .used) (load .ensures) (waiting-length .ensures .0) e (ap (withInvocations (load .result)) (acted .ensures .is)) in
+    omega (arith, past s (write .ensures) .0)
+
+cast-put-control : tie.Need-cast-put-control
+cast-put-control c =
+    let args = c .before .before .before .before .before .before .before .before .before .before .before .before .before .before .before .before .before .before .before .before .args in
+    let enter-at = c .before .before .before .before .before .before .before .before .before .before .before .before .before .before .before .enter-at in
+    let if1 = c .before .before .before .before .before .before .before .before .before .before .before .before .before .before .if1 in
+    let load = c .before .before .before .before .before .before .before .before .before .before .before .before .load in
+    let waiting-length = c .before .before .before .before .before .before .before .before .before .waiting-length in
+    let refusal = c .before .before .before .before .before .before .before .before .refusal in
+    let if2 = c .before .before .before .before .before .before .before .if2 in
+    let acted = c .before .before .before .before .before .before .acted in
+    let write = c .before .before .before .write in
+    let x = placeAt (view (args .table .now)) (enter-at .result .place) in
+    let e = sym (if2 .left) ∙ refusal .ensures x (sym (ap (λ (k : Control). k .state) (load .ensures))) (sym (ap (λ (k : Control). k .invocations) (load .ensures))) (sym (waiting-length .ensures .0)) in
+    let s = appends (args .code .now) (args .parameter .now) (args .what) (enter-at .ensures .inside (if1 .left) .used) (load .ensures) (waiting-length .ensures .0) e (ap (withInvocations (load .result)) (acted .ensures .is)) in
+    omega (arith, past s (write .ensures) .2)
+
+put-control-requires : tie.Need-put-control-requires
+put-control-requires c κs =
+    let args = c .before .before .before .before .before .before .before .before .before .before .before .before .before .before .before .before .before .before .before .before .args in
+    let enter-at = c .before .before .before .before .before .before .before .before .before .before .before .before .before .before .before .enter-at in
+    let if1 = c .before .before .before .before .before .before .before .before .before .before .before .before .before .before .if1 in
+    let load = c .before .before .before .before .before .before .before .before .before .before .before .before .load in
+    let waiting-length = c .before .before .before .before .before .before .before .before .before .waiting-length in
+    let refusal = c .before .before .before .before .before .before .before .before .refusal in
+    let if2 = c .before .before .before .before .before .before .before .if2 in
+    let acted = c .before .before .before .before .before .before .acted in
+    let write = c .before .before .before .write in
+    let x = placeAt (view (args .table .now)) (enter-at .result .place) in
+    let e = sym (if2 .left) ∙ refusal .ensures x (sym (ap (λ (k : Control). k .state) (load .ensures))) (sym (ap (λ (k : Control). k .invocations) (load .ensures))) (sym (waiting-length .ensures .0)) in
+    let s = appends (args .code .now) (args .parameter .now) (args .what) (enter-at .ensures .inside (if1 .left) .used) (load .ensures) (waiting-length .ensures .0) e (ap (withInvocations (load .result)) (acted .ensures .is)) in
+    (s .storing .small, as-long s (write .ensures), s .storing .control)
 
 done-requires : tie.Need-done-requires
 done-requires c κs = search needs
@@ -106,20 +175,23 @@ same-length-3 c = search needs
 
 returns-3 : tie.Need-returns-3
 returns-3 c =
-    let args = c .before .before .before .before .before .before .before .before .before .before .before .before .before .before .before .before .before .before .before .before .args in
-    let enter-at = c .before .before .before .before .before .before .before .before .before .before .before .before .before .before .before .enter-at in
-    let if1 = c .before .before .before .before .before .before .before .before .before .before .before .before .before .before .if1 in
-    let load = c .before .before .before .before .before .before .before .before .before .before .before .before .load in
-    let waiting-length = c .before .before .before .before .before .before .before .before .before .waiting-length in
-    let refusal = c .before .before .before .before .before .before .before .before .refusal in
-    let if2 = c .before .before .before .before .before .before .before .if2 in
-    let acted = c .before .before .before .before .before .before .acted in
-    let put = c .before .before .before .put in
+    let args = c .before .before .before .before .before .before .before .before .before .before .before .before .before .before .before .before .before .before .before .before .before .before .before .before .args in
+    let enter-at = c .before .before .before .before .before .before .before .before .before .before .before .before .before .before .before .before .before .before .before .enter-at in
+    let if1 = c .before .before .before .before .before .before .before .before .before .before .before .before .before .before .before .before .before .before .if1 in
+    let load = c .before .before .before .before .before .before .before .before .before .before .before .before .before .before .before .before .load in
+    let waiting-length = c .before .before .before .before .before .before .before .before .before .before .before .before .before .waiting-length in
+    let refusal = c .before .before .before .before .before .before .before .before .before .before .before .before .refusal in
+    let if2 = c .before .before .before .before .before .before .before .before .before .before .before .if2 in
+    let acted = c .before .before .before .before .before .before .before .before .before .before .acted in
+    let write = c .before .before .before .before .before .before .before .write in
+    let put-control = c .before .before .before .put-control in
     let done = c .done in
     let m = meets-as (passing-spaces (args .code .now) (args .parameter .now) (args .what)) (enter-at .ensures) in
     let x = placeAt (view (args .table .now)) (enter-at .result .place) in
+    let e = sym (if2 .left) ∙ refusal .ensures x (sym (ap (λ (k : Control). k .state) (load .ensures))) (sym (ap (λ (k : Control). k .invocations) (load .ensures))) (sym (waiting-length .ensures .0)) in
+    let s = appends (args .code .now) (args .parameter .now) (args .what) (enter-at .ensures .inside (if1 .left) .used) (load .ensures) (waiting-length .ensures .0) e (ap (withInvocations (load .result)) (acted .ensures .is)) in
     pass-done (args .table .now) (args .service) (args .dialogue) (args .what) (args .code .now) (args .parameter .now) (enter-at .result .place) (m .inside (if1 .left))
-    (sym (if2 .left) ∙ refusal .ensures x (sym (ap (λ (k : Control). k .state) (load .ensures))) (sym (ap (λ (k : Control). k .invocations) (load .ensures))) (sym (waiting-length .ensures .0))) (ap (withInvocations (load .result)) (acted .ensures .is) ∙ ap (controlAfter (args .what)) (load .ensures)) (done .ensures) (put .ensures)
+    e (ap (withInvocations (load .result)) (acted .ensures .is) ∙ ap (controlAfter (args .what)) (load .ensures)) (done .ensures) (appended s (write .ensures) (put-control .ensures))
 
 pub pass-spec : {M : Type 1} → statement M
 pass-spec =
@@ -138,7 +210,13 @@ pass-spec =
     acted-requires
     mul-v
     element-set-from-v
-    put-requires
+    mul-a
+    add-a
+    add-write
+    write-requires
+    sub-put-control
+    cast-put-control
+    put-control-requires
     done-requires
     same-length-3
     returns-3)
