@@ -12,7 +12,7 @@ use Rattle.paper.specs.Components.{noID}
 use Rattle.paper.specs.Problems.{kindOf, codeOf}
 use Rattle.paper.specs.Writing.{invokeOctets, resultOctets, errorOctets, rejectOctets}
 use Rattle.paper.specs.Invocations.{rejecting, noInvocation, newOne, slotOf, idleSlot, invocationOf, inState, withInvocations, toState, passed}
-use Rattle.paper.specs.Dialogues.{Place, Request, Done, done, refusal, does, rejectedBy}
+use Rattle.paper.specs.Dialogues.{Place, Request, done, refusal, does, rejectedBy}
 use Rattle.paper.specs.Dialogues.Request.{Invoke, Result, Error, UserReject}
 use Rattle.paper.specs.Calls.{placeAt, withPlace}
 use Rattle.paper.specs.Calls.Call.{OnDialogue}

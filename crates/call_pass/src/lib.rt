@@ -2,7 +2,6 @@
 // straight into the table.
 use call_entry::NO_SPACE;
 use call_entry::Reply;
-use paper::Control;
 use paper::DIALOGUE_OPEN;
 use paper::FIRST_WAITING;
 use paper::IDLE;
@@ -120,14 +119,7 @@ fn reject_refusal(state: u8, l: [Invocation; 8], n: usize, id: u8, problem: u32)
     return 9;
 }
 
-fn refusal(
-    state: u8,
-    l: [Invocation; 8],
-    n: usize,
-    what: Passing,
-    code: &[u8],
-    par: &[u8],
-) -> u32
+fn refusal(state: u8, l: [Invocation; 8], n: usize, what: Passing, code: &[u8], par: &[u8]) -> u32
     requires { ⌜ n ≤ mostWaiting ⌝ }
     ensures { λ r. ⌜ ((x : Place) → x .control .state ≡ state → x .control .invocations ≡ l → length (x .waiting) ≡ n → r ≡ refusalOf x (passing what (now (code .entry)) (now (par .entry)))) ⌝ }
 {
@@ -157,10 +149,7 @@ fn invoked(l: [Invocation; 8], id: u8, class: u32) -> Slot
         state: PENDING,
         shown: 0,
     };
-    return Slot {
-        at: i,
-        holds: v,
-    };
+    return Slot { at: i, holds: v };
 }
 
 // None is changed: the first holds what it held.
@@ -168,10 +157,7 @@ fn unchanged(l: [Invocation; 8]) -> Slot
     ensures { λ r. ⌜ Leaves l (r .at) (r .holds) l ⌝ }
 {
     let v = l[0];
-    return Slot {
-        at: 0,
-        holds: v,
-    };
+    return Slot { at: 0, holds: v };
 }
 
 // "Rejecting until transmitted"; an invoke's reject changes no invocation of ours.
@@ -185,10 +171,7 @@ fn rejected_by(l: [Invocation; 8], id: u8, problem: u32) -> Slot
     let i = dialogue_invocations::slot_of(l, id as u32);
     let mut v = l[i];
     v.state = REJECTING;
-    return Slot {
-        at: i,
-        holds: v,
-    };
+    return Slot { at: i, holds: v };
 }
 
 fn acted(l: [Invocation; 8], what: Passing) -> Slot

@@ -1,4 +1,3 @@
-use native.Mathlib.Omega.{arith}
 use borrow.Author.Needs.{needs}
 use Rattle.call_pass.proofs.invoked.Statement.{statement}
 use Rattle.call_pass.proofs.invoked.Tie as tie

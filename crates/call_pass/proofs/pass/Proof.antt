@@ -121,19 +121,8 @@ write-requires c κs =
 
 sub-put-control : tie.Need-sub-put-control
 sub-put-control c =
-    let args = c .before .before .before .before .before .before .before .before .before .before .before .before .before .before .before .before .before .before .before .before .args in
-    let enter-at = c .before .before .before .before .before .before .before .before .before .before .before .before .before .before .before .enter-at in
-    let if1 = c .before .before .before .before .before .before .before .before .before .before .before .before .before .before .if1 in
-    let load = c .before .before .before .before .before .before .before .before .before .before .before .before .load in
-    let waiting-length = c .before .before .before .before .before .before .before .before .before .waiting-length in
-    let refusal = c .before .before .before .before .before .before .before .before .refusal in
-    let if2 = c .before .before .before .before .before .before .before .if2 in
-    let acted = c .before .before .before .before .before .before .acted in
     let write = c .before .before .before .write in
-    let x = placeAt (view (args .table .now)) (enter-at .result .place) in
-    let e = sym (if2 .left) ∙ refusal .ensures x (sym (ap (λ (k : Control). k .state) (load .ensures))) (sym (ap (λ (k : Control). k .invocations) (load .ensures))) (sym (waiting-length .ensures .0)) in
-    let s = appends (args .code .now) (args .parameter .now) (args .what) (enter-at .ensures .inside (if1 .left) .used) (load .ensures) (waiting-length .ensures .0) e (ap (withInvocations (load .result)) (acted .ensures .is)) in
-    omega (arith, past s (write .ensures) .0)
+    omega (arith, write .ensures .past)
 
 cast-put-control : tie.Need-cast-put-control
 cast-put-control c =

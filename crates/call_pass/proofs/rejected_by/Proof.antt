@@ -1,5 +1,4 @@
 use native.Mathlib.Omega.{arith}
-use mathlib.Core.Path.{refl, ap, _∙_}
 use Rattle.laws.specs.If.{eq, ne}
 use Rattle.paper.specs.Invocations.{invocationOf}
 use borrow.Author.Needs.{needs}

@@ -1,5 +1,4 @@
 use native.Mathlib.Omega.{arith}
-use mathlib.Core.Path.{ap, _∙_}
 use Rattle.call_pass.specs.Passings.{same-first}
 use borrow.Author.Needs.{needs}
 use Rattle.call_pass.proofs.unchanged.Statement.{statement}
