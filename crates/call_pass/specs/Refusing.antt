@@ -2,17 +2,19 @@
 use mathlib.Core.Path.{_≡_, refl, sym, ap, subst, _∙_}
 use mathlib.Core.Bool.{Bool, true, false}
 use mathlib.Core.List.{List}
-use Prim.Native.Nat.{ℕ, _+_, _-_, _<_, _≤_}
+use Prim.Native.Nat.{ℕ, _+_, _<_, _≤_}
 use native.Mathlib.Omega.{arith}
 use lib.Dec.{ltb}
 use borrow.Author.Tests.{ltb-true, ltb-false}
 use lib.ListN.{length, List·getD-eq-default}
 use Rattle.laws.specs.If.{ifLt, ifEq, ifB, lt, ge, eq, ne, yes, no, was-ge, was-eq, was-yes, by-eq, true-false}
 use Rattle.paper.specs.declared.Invocation.{Invocation}
-use Rattle.paper.specs.Problems.{senderOf, kindOf, codeOf}
+use Rattle.paper.specs.Sizes.{mostInvocations, mostWaiting}
+use Rattle.paper.specs.Components.{noID}
+use Rattle.paper.specs.Problems.{byUser, senderOf, senderOfProblem, kindOf}
 use Rattle.paper.specs.Writing.{invokeOctets, resultOctets, errorOctets, rejectOctets}
-use Rattle.paper.specs.Invocations.{noInvocation, slotOf, idleSlot, invocationOf, stateOf, mayReject, passed, toState, rejecting}
-use Rattle.paper.specs.Dialogues.{Place, isCode, isParameter, isResult, overfull, invokeRefusal, resultRefusal, errorRefusal, rejectRefusal, rejectedBy}
+use Rattle.paper.specs.Invocations.{idle, noInvocation, slotOf, idleSlot, invocationOf, stateOf, mayReject, passed, toState, rejecting}
+use Rattle.paper.specs.Dialogues.{Place, dialogueOpen, isCode, isParameter, isResult, overfull, invokeRefusal, resultRefusal, errorRefusal, rejectRefusal, rejectedBy}
 use Rattle.paper.specs.Calls.{placeAt}
 use Rattle.paper.specs.Layout.{view}
 use Rattle.writing_octets.specs.Lengths.{elementSize, resultSize, plain-size, linked-size, invoke-length, result-length, error-length, reject-length, some-size}
@@ -23,33 +25,34 @@ use Rattle.call_entry.specs.Prologue.{Used, used-storing}
 
 -- the octets before an invoke's operation: the linked ID, 256 none, takes three
 unfoldable pub frontOf : ℕ → ℕ
-frontOf linked = ifEq linked 256 3 6
+frontOf linked = ifEq linked noID 3 6
 
 pub front-small : (linked : ℕ) → frontOf linked ≤ 6
 unfolding frontOf
-front-small linked = by-eq {r = frontOf linked} linked 256 3 6 refl (λ h e. omega (arith, e)) (λ h e. omega (arith, e))
+front-small linked = by-eq {r = frontOf linked} linked noID 3 6 refl (λ h e. omega (arith, e)) (λ h e. omega (arith, e))
 
 front-size : (id linked : ℕ) (op par : List ℕ) → elementSize (frontOf linked + length op + length par) ≡ length (invokeOctets id linked op par)
 unfolding frontOf
 front-size id linked op par =
-    by-eq {r = frontOf linked} linked 256 3 6 refl
+    by-eq {r = frontOf linked} linked noID 3 6 refl
     (λ h e. ap (λ (k : ℕ). elementSize (k + length op + length par)) e ∙ plain-size op par linked h)
     (λ h e. ap (λ (k : ℕ). elementSize (k + length op + length par)) e ∙ linked-size op par linked h)
     ∙ sym (invoke-length op par id linked)
 
-module _ (x : Place) (n : ℕ) (w : length (x .waiting) ≡ n) where
-  over-as : (size : ℕ) (l : List ℕ) → size ≡ length l → ifLt 240 (n + size) 12 0 ≡ overfull x l
-  unfolding overfull
-  over-as size l e = ap (λ (k : ℕ). ifLt 240 (k + size) 12 0) (sym w) ∙ ap (λ (k : ℕ). ifLt 240 (length (x .waiting) + k) 12 0) e
+module _ (x : Place) where
+  module _ {n : ℕ} (w : length (x .waiting) ≡ n) where
+    over-as : (size : ℕ) (l : List ℕ) → size ≡ length l → ifLt mostWaiting (n + size) 12 0 ≡ overfull x l
+    unfolding overfull
+    over-as size l e = ap (λ (k : ℕ). ifLt mostWaiting (k + size) 12 0) (sym w) ∙ ap (λ (k : ℕ). ifLt mostWaiting (length (x .waiting) + k) 12 0) e
 
-  pieces-as : (front : ℕ) (code par l : List ℕ) → elementSize (front + length code + length par) ≡ length l
-      → piecesRefusal n front code par ≡ ifB (isCode code) (ifB (isParameter par) (overfull x l) 11) 11
-  unfolding piecesRefusal
-  pieces-as front code par l e = ap (λ (k : ℕ). ifB (isCode code) (ifB (isParameter par) k 11) 11) (over-as _ l e)
+    pieces-as : (front : ℕ) (code par l : List ℕ) → elementSize (front + length code + length par) ≡ length l
+        → piecesRefusal n front code par ≡ ifB (isCode code) (ifB (isParameter par) (overfull x l) 11) 11
+    unfolding piecesRefusal
+    pieces-as front code par l e = ap (λ (k : ℕ). ifB (isCode code) (ifB (isParameter par) k 11) 11) (over-as _ l e)
 
-  room : (l : List ℕ) → 0 ≡ overfull x l → n + length l ≤ 240
+  room : (l : List ℕ) → 0 ≡ overfull x l → length (x .waiting) + length l ≤ mostWaiting
   unfolding overfull
-  room l e = omega (arith, was-ge 240 (length (x .waiting) + length l) 12 0 e (λ z. omega arith) .0)
+  room l e = was-ge mostWaiting (length (x .waiting) + length l) 12 0 e (λ z. omega arith) .0
 
   -- ---- an invoke
   module _ (id linked class : ℕ) (op par : List ℕ) where
@@ -62,22 +65,24 @@ module _ (x : Place) (n : ℕ) (w : length (x .waiting) ≡ n) where
     class-high h = ge _ _ _ _ (omega arith) (lt _ _ _ _ h refl)
 
     module _ (a : 1 ≤ class) (b : class ≤ 4) where
-      pub not-idle : (stateOf (x .control) id ≡ 0 → ⊥) → 9 ≡ invokeRefusal x id linked class op par
+      pub not-idle : (stateOf (x .control) id ≡ idle → ⊥) → 9 ≡ invokeRefusal x id linked class op par
       unfolding invokeRefusal
       not-idle h = ge _ _ _ _ a (ge _ _ _ _ b (ne _ _ _ _ h refl))
 
-      module _ (d : stateOf (x .control) id ≡ 0) where
-        pub eight-open : idleSlot (x .control .invocations) ≡ 8 → 10 ≡ invokeRefusal x id linked class op par
+      module _ (d : stateOf (x .control) id ≡ idle) where
+        pub eight-open : idleSlot (x .control .invocations) ≡ mostInvocations → 10 ≡ invokeRefusal x id linked class op par
         unfolding invokeRefusal
         eight-open h = ge _ _ _ _ a (ge _ _ _ _ b (eq _ _ _ _ d (eq _ _ _ _ h refl)))
 
-        pub invoke-pieces : (idleSlot (x .control .invocations) ≡ 8 → ⊥) → (r : ℕ) → r ≡ piecesRefusal n (frontOf linked) op par → r ≡ invokeRefusal x id linked class op par
+        pub invoke-pieces : (idleSlot (x .control .invocations) ≡ mostInvocations → ⊥) → {n r : ℕ} → length (x .waiting) ≡ n → r ≡ piecesRefusal n (frontOf linked) op par
+            → r ≡ invokeRefusal x id linked class op par
         unfolding invokeRefusal
-        invoke-pieces h r e =
-            ge _ _ _ _ a (ge _ _ _ _ b (eq _ _ _ _ d (ne _ _ _ _ h (e ∙ pieces-as (frontOf linked) op par (invokeOctets id linked op par) (front-size id linked op par)))))
+        invoke-pieces h w e =
+            ge _ _ _ _ a (ge _ _ _ _ b (eq _ _ _ _ d (ne _ _ _ _ h (e ∙ pieces-as w (frontOf linked) op par (invokeOctets id linked op par) (front-size id linked op par)))))
 
-    pub invoke-in : 0 ≡ invokeRefusal x id linked class op par → (class ≤ 4) × (idleSlot (x .control .invocations) ≡ 8 → ⊥) × (n + length (invokeOctets id linked op par) ≤ 240)
-        × (1 ≤ class) × (stateOf (x .control) id ≡ 0)
+    pub invoke-in : 0 ≡ invokeRefusal x id linked class op par
+        → (class ≤ 4) × (idleSlot (x .control .invocations) ≡ mostInvocations → ⊥) × (length (x .waiting) + length (invokeOctets id linked op par) ≤ mostWaiting)
+        × (1 ≤ class) × (stateOf (x .control) id ≡ idle)
     unfolding invokeRefusal
     invoke-in e =
         let a = was-ge _ _ _ _ e (λ z. omega arith) in
@@ -90,29 +95,29 @@ module _ (x : Place) (n : ℕ) (w : length (x .waiting) ≡ n) where
 
   -- ---- a result, an error: not in Open
   module _ (tag id : ℕ) (op par : List ℕ) where
-    pub result-open : x .control .state ≡ 1 → 6 ≡ resultRefusal x tag id op par
+    pub result-open : x .control .state ≡ dialogueOpen → 6 ≡ resultRefusal x tag id op par
     unfolding resultRefusal
     result-open h = eq _ _ _ _ h refl
 
-    pub result-pieces : (x .control .state ≡ 1 → ⊥) → (r : ℕ) → r ≡ bothRefusal n op par → r ≡ resultRefusal x tag id op par
+    pub result-pieces : (x .control .state ≡ dialogueOpen → ⊥) → {n r : ℕ} → length (x .waiting) ≡ n → r ≡ bothRefusal n op par → r ≡ resultRefusal x tag id op par
     unfolding resultRefusal bothRefusal
-    result-pieces h r e = ne _ _ _ _ h (e ∙ ap (λ (k : ℕ). ifB (isResult op par) k 11) (over-as (resultSize op par) (resultOctets tag id op par) (sym (result-length op par tag id))))
+    result-pieces h w e = ne _ _ _ _ h (e ∙ ap (λ (k : ℕ). ifB (isResult op par) k 11) (over-as w (resultSize op par) (resultOctets tag id op par) (sym (result-length op par tag id))))
 
-    pub result-in : 0 ≡ resultRefusal x tag id op par → n + length (resultOctets tag id op par) ≤ 240
+    pub result-in : 0 ≡ resultRefusal x tag id op par → length (x .waiting) + length (resultOctets tag id op par) ≤ mostWaiting
     unfolding resultRefusal
     result-in e =
         by-eq _ _ _ _ e (λ h z. absurd (omega arith)) (λ h z. room (resultOctets tag id op par) (was-yes _ _ _ z (λ y. omega arith) .1))
 
   module _ (id : ℕ) (err par : List ℕ) where
-    pub error-open : x .control .state ≡ 1 → 6 ≡ errorRefusal x id err par
+    pub error-open : x .control .state ≡ dialogueOpen → 6 ≡ errorRefusal x id err par
     unfolding errorRefusal
     error-open h = eq _ _ _ _ h refl
 
-    pub error-pieces : (x .control .state ≡ 1 → ⊥) → (r : ℕ) → r ≡ piecesRefusal n 3 err par → r ≡ errorRefusal x id err par
+    pub error-pieces : (x .control .state ≡ dialogueOpen → ⊥) → {n r : ℕ} → length (x .waiting) ≡ n → r ≡ piecesRefusal n 3 err par → r ≡ errorRefusal x id err par
     unfolding errorRefusal
-    error-pieces h r e = ne _ _ _ _ h (e ∙ pieces-as 3 err par (errorOctets id err par) (sym (error-length err par id)))
+    error-pieces h w e = ne _ _ _ _ h (e ∙ pieces-as w 3 err par (errorOctets id err par) (sym (error-length err par id)))
 
-    pub error-in : 0 ≡ errorRefusal x id err par → n + length (errorOctets id err par) ≤ 240
+    pub error-in : 0 ≡ errorRefusal x id err par → length (x .waiting) + length (errorOctets id err par) ≤ mostWaiting
     unfolding errorRefusal
     error-in e =
         by-eq _ _ _ _ e (λ h z. absurd (omega arith))
@@ -120,34 +125,29 @@ module _ (x : Place) (n : ℕ) (w : length (x .waiting) ≡ n) where
 
   -- ---- a reject
   module _ (id p : ℕ) where
-    pub reject-open : x .control .state ≡ 1 → 6 ≡ rejectRefusal x id p
+    pub reject-open : x .control .state ≡ dialogueOpen → 6 ≡ rejectRefusal x id p
     unfolding rejectRefusal
     reject-open h = eq _ _ _ _ h refl
 
-    module _ (a : x .control .state ≡ 1 → ⊥) where
-      pub not-users : (senderOf (kindOf p) (codeOf p) ≡ 1 → ⊥) → 8 ≡ rejectRefusal x id p
+    module _ (a : x .control .state ≡ dialogueOpen → ⊥) where
+      pub not-users : (senderOfProblem p ≡ byUser → ⊥) → 8 ≡ rejectRefusal x id p
       unfolding rejectRefusal
       not-users h = ne _ _ _ _ a (ne _ _ _ _ h refl)
 
-      module _ (b : senderOf (kindOf p) (codeOf p) ≡ 1) where
+      module _ (b : senderOfProblem p ≡ byUser) where
         pub may-not : mayReject (kindOf p) (invocationOf (x .control .invocations) id) ≡ false → 9 ≡ rejectRefusal x id p
         unfolding rejectRefusal
         may-not h = ne _ _ _ _ a (eq _ _ _ _ b (no _ _ _ h refl))
 
-        module _ (c : mayReject (kindOf p) (invocationOf (x .control .invocations) id) ≡ true) (i : id < 256) where
-          eight : 8 ≡ length (rejectOctets id p)
-          eight = some-size id (λ q. omega arith) ∙ sym (reject-length id p)
-
-          pub reject-over : 240 < n + 8 → 12 ≡ rejectRefusal x id p
-          unfolding rejectRefusal
-          reject-over h = ne _ _ _ _ a (eq _ _ _ _ b (yes _ _ _ c (lt 240 (n + 8) 12 0 h refl ∙ over-as 8 (rejectOctets id p) eight)))
-
-          pub reject-fits : n + 8 ≤ 240 → 0 ≡ rejectRefusal x id p
-          unfolding rejectRefusal
-          reject-fits h = ne _ _ _ _ a (eq _ _ _ _ b (yes _ _ _ c (ge 240 (n + 8) 12 0 h refl ∙ over-as 8 (rejectOctets id p) eight)))
+        -- one with an ID has eight octets
+        pub reject-room : mayReject (kindOf p) (invocationOf (x .control .invocations) id) ≡ true → id < 256 → {n r : ℕ} → length (x .waiting) ≡ n
+            → r ≡ ifLt mostWaiting (n + 8) 12 0 → r ≡ rejectRefusal x id p
+        unfolding rejectRefusal
+        reject-room c i w h =
+            ne _ _ _ _ a (eq _ _ _ _ b (yes _ _ _ c (h ∙ over-as w 8 (rejectOctets id p) (some-size id (λ q. omega arith) ∙ sym (reject-length id p)))))
 
     pub reject-in : 0 ≡ rejectRefusal x id p
-        → (senderOf (kindOf p) (codeOf p) ≡ 1) × (mayReject (kindOf p) (invocationOf (x .control .invocations) id) ≡ true) × (n + length (rejectOctets id p) ≤ 240)
+        → (senderOfProblem p ≡ byUser) × (mayReject (kindOf p) (invocationOf (x .control .invocations) id) ≡ true) × (length (x .waiting) + length (rejectOctets id p) ≤ mostWaiting)
     unfolding rejectRefusal
     reject-in e =
         by-eq _ _ _ _ e (λ h z. absurd (omega arith))

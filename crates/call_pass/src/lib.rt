@@ -2,81 +2,44 @@
 // straight into the table.
 use call_entry::NO_SPACE;
 use call_entry::Reply;
-use paper::Control;
 use paper::DIALOGUE_OPEN;
 use paper::FIRST_WAITING;
 use paper::IDLE;
+use paper::Invocation;
 use paper::MOST_INVOCATIONS;
 use paper::MOST_WAITING;
 use paper::NO_ID;
+use paper::PENDING;
 use paper::PLACE_OCTETS;
 use paper::REJECTING;
 ghost use mathlib.Core.Path.{_≡_};
-ghost use mathlib.Core.List.{[], _++_};
+ghost use mathlib.Core.List.{[]};
 ghost use Prim.Native.Nat.{_<_, _≤_};
 ghost use lib.ListN.{length};
-ghost use Rattle.paper.specs.Sizes.{mostWaiting};
+ghost use Rattle.laws.specs.Runs.{Wrote};
+ghost use Rattle.paper.specs.Sizes.{mostWaiting, mostInvocations};
 ghost use Rattle.paper.specs.Components.{noID};
 ghost use Rattle.paper.specs.Problems.{kindOf};
-ghost use Rattle.paper.specs.Writing.{invokeOctets, resultOctets, errorOctets, rejectOctets};
-ghost use Rattle.paper.specs.Invocations.{slotOf};
-ghost use Rattle.paper.specs.Dialogues.{Place, invokeRefusal, resultRefusal, errorRefusal, rejectRefusal, rejectedBy};
-ghost use Rattle.paper.specs.Dialogues.Request.{Invoke, Result, Error, UserReject};
-ghost use Rattle.paper.specs.Calls.{placeAt, withPlace};
+ghost use Rattle.paper.specs.Invocations.{slotOf, idleSlot};
+ghost use Rattle.paper.specs.Dialogues.{Place, refusal as refusalOf, invokeRefusal, resultRefusal, errorRefusal, rejectRefusal};
 ghost use Rattle.paper.specs.Calls.Call.{OnDialogue};
-ghost use Rattle.paper.specs.Layout.{encode, view};
 ghost use Rattle.paper.specs.Outcome.{Gives, outcome};
-ghost use Rattle.table_places.specs.Storing.{withWaiting};
-ghost use Rattle.call_pass.specs.Appending.{Appending};
 ghost use Rattle.call_pass.specs.Refusing.{frontOf};
+ghost use Rattle.call_pass.specs.Passings.{passing, octetsOf, withNew, withRejected, invocationsAfter, Leaves, linkedOf, Acts, Writing};
 
-// ---- WRITTEN: the control record c, and a component after the n octets that wait
-fn put_invoke(
-    t: &mut [u8],
-    p: usize,
-    c: Control,
-    n: usize,
-    id: u8,
-    linked: u32,
-    op: &[u8],
-    par: &[u8],
-)
-    requires { ⌜ Appending (now t) p c n (invokeOctets id linked (now op) (now par)) × (linked ≤ noID) ⌝ }
-    ensures { λ r. ⌜ now (t .exit) ≡ encode (withPlace (view (now (t .entry))) p (withWaiting c (placeAt (view (now (t .entry))) p .waiting ++ invokeOctets id linked (now (op .entry)) (now (par .entry))))) ⌝ }
-{
-    let a = FIRST_WAITING + p * PLACE_OCTETS;
-    let e = writing_components::write_invoke(t, a + n, id, linked, op, par);
-    table_places::put_control(t, p, c, (e - a) as u8);
+// WHAT IS PASSED, by its numbers. The operation or error, and the parameter, stand beside it as octets; a reject has neither.
+pub enum Passing {
+    // ID, linked ID (256 none), class
+    AnInvoke(u8, u32, u32),
+    // tag, last or not last; ID
+    AResult(u8, u8),
+    // ID
+    AnError(u8),
+    // ID, problem as in a row
+    AReject(u8, u32),
 }
 
-fn put_result(t: &mut [u8], p: usize, c: Control, n: usize, tag: u8, id: u8, op: &[u8], par: &[u8])
-    requires { ⌜ Appending (now t) p c n (resultOctets tag id (now op) (now par)) ⌝ }
-    ensures { λ r. ⌜ now (t .exit) ≡ encode (withPlace (view (now (t .entry))) p (withWaiting c (placeAt (view (now (t .entry))) p .waiting ++ resultOctets tag id (now (op .entry)) (now (par .entry))))) ⌝ }
-{
-    let a = FIRST_WAITING + p * PLACE_OCTETS;
-    let e = writing_components::write_result(t, a + n, tag, id, op, par);
-    table_places::put_control(t, p, c, (e - a) as u8);
-}
-
-fn put_error(t: &mut [u8], p: usize, c: Control, n: usize, id: u8, err: &[u8], par: &[u8])
-    requires { ⌜ Appending (now t) p c n (errorOctets id (now err) (now par)) ⌝ }
-    ensures { λ r. ⌜ now (t .exit) ≡ encode (withPlace (view (now (t .entry))) p (withWaiting c (placeAt (view (now (t .entry))) p .waiting ++ errorOctets id (now (err .entry)) (now (par .entry))))) ⌝ }
-{
-    let a = FIRST_WAITING + p * PLACE_OCTETS;
-    let e = writing_components::write_error(t, a + n, id, err, par);
-    table_places::put_control(t, p, c, (e - a) as u8);
-}
-
-fn put_reject(t: &mut [u8], p: usize, c: Control, n: usize, id: u8, problem: u32)
-    requires { ⌜ Appending (now t) p c n (rejectOctets id problem) × (problem < 1024) ⌝ }
-    ensures { λ r. ⌜ now (t .exit) ≡ encode (withPlace (view (now (t .entry))) p (withWaiting c (placeAt (view (now (t .entry))) p .waiting ++ rejectOctets id problem))) ⌝ }
-{
-    let a = FIRST_WAITING + p * PLACE_OCTETS;
-    let e = writing_components::write_reject(t, a + n, id as u32, problem);
-    table_places::put_control(t, p, c, (e - a) as u8);
-}
-
-// ---- REFUSED, by a place's control record and the number of octets that wait there
+// ---- REFUSED, by a dialogue's state, its invocations and the number of octets that wait
 fn front_of(linked: u32) -> usize
     ensures { λ r. ⌜ r ≡ frontOf linked ⌝ }
 {
@@ -87,7 +50,7 @@ fn front_of(linked: u32) -> usize
 }
 
 fn invoke_refusal(
-    c: Control,
+    l: [Invocation; 8],
     n: usize,
     id: u8,
     linked: u32,
@@ -96,7 +59,7 @@ fn invoke_refusal(
     par: &[u8],
 ) -> u32
     requires { ⌜ n ≤ mostWaiting ⌝ }
-    ensures { λ r. ⌜ ((x : Place) → x .control ≡ c → length (x .waiting) ≡ n → r ≡ invokeRefusal x id linked class (now (op .entry)) (now (par .entry))) ⌝ }
+    ensures { λ r. ⌜ ((x : Place) → x .control .invocations ≡ l → length (x .waiting) ≡ n → r ≡ invokeRefusal x id linked class (now (op .entry)) (now (par .entry))) ⌝ }
 {
     if class < 1 {
         return 8;
@@ -104,7 +67,6 @@ fn invoke_refusal(
     if class > 4 {
         return 8;
     }
-    let l = c.invocations;
     let state = dialogue_invocations::state_of(l, id as u32);
     if state != IDLE {
         return 9;
@@ -117,37 +79,36 @@ fn invoke_refusal(
     return call_given::pieces_refusal(n, front, op, par);
 }
 
-fn result_refusal(c: Control, n: usize, tag: u8, id: u8, op: &[u8], par: &[u8]) -> u32
+fn result_refusal(state: u8, n: usize, tag: u8, id: u8, op: &[u8], par: &[u8]) -> u32
     requires { ⌜ n ≤ mostWaiting ⌝ }
-    ensures { λ r. ⌜ ((x : Place) → x .control ≡ c → length (x .waiting) ≡ n → r ≡ resultRefusal x tag id (now (op .entry)) (now (par .entry))) ⌝ }
+    ensures { λ r. ⌜ ((x : Place) → x .control .state ≡ state → length (x .waiting) ≡ n → r ≡ resultRefusal x tag id (now (op .entry)) (now (par .entry))) ⌝ }
 {
-    if c.state == DIALOGUE_OPEN {
+    if state == DIALOGUE_OPEN {
         return 6;
     }
     return call_given::both_refusal(n, op, par);
 }
 
-fn error_refusal(c: Control, n: usize, id: u8, err: &[u8], par: &[u8]) -> u32
+fn error_refusal(state: u8, n: usize, id: u8, err: &[u8], par: &[u8]) -> u32
     requires { ⌜ n ≤ mostWaiting ⌝ }
-    ensures { λ r. ⌜ ((x : Place) → x .control ≡ c → length (x .waiting) ≡ n → r ≡ errorRefusal x id (now (err .entry)) (now (par .entry))) ⌝ }
+    ensures { λ r. ⌜ ((x : Place) → x .control .state ≡ state → length (x .waiting) ≡ n → r ≡ errorRefusal x id (now (err .entry)) (now (par .entry))) ⌝ }
 {
-    if c.state == DIALOGUE_OPEN {
+    if state == DIALOGUE_OPEN {
         return 6;
     }
     return call_given::pieces_refusal(n, 3, err, par);
 }
 
-fn reject_refusal(c: Control, n: usize, id: u8, problem: u32) -> u32
+fn reject_refusal(state: u8, l: [Invocation; 8], n: usize, id: u8, problem: u32) -> u32
     requires { ⌜ n ≤ mostWaiting ⌝ }
-    ensures { λ r. ⌜ ((x : Place) → x .control ≡ c → length (x .waiting) ≡ n → r ≡ rejectRefusal x id problem) ⌝ }
+    ensures { λ r. ⌜ ((x : Place) → x .control .state ≡ state → x .control .invocations ≡ l → length (x .waiting) ≡ n → r ≡ rejectRefusal x id problem) ⌝ }
 {
-    if c.state == DIALOGUE_OPEN {
+    if state == DIALOGUE_OPEN {
         return 6;
     }
     if reading_problems::sender(problem / 256, problem % 256) != 1 {
         return 8;
     }
-    let l = c.invocations;
     let v = dialogue_invocations::invocation_of(l, id as u32);
     if dialogue_invocations::may_reject(problem / 256, v) {
         if n + 8 > MOST_WAITING {
@@ -158,32 +119,109 @@ fn reject_refusal(c: Control, n: usize, id: u8, problem: u32) -> u32
     return 9;
 }
 
+fn refusal(state: u8, l: [Invocation; 8], n: usize, what: Passing, code: &[u8], par: &[u8]) -> u32
+    requires { ⌜ n ≤ mostWaiting ⌝ }
+    ensures { λ r. ⌜ ((x : Place) → x .control .state ≡ state → x .control .invocations ≡ l → length (x .waiting) ≡ n → r ≡ refusalOf x (passing what (now (code .entry)) (now (par .entry)))) ⌝ }
+{
+    match what {
+        Passing::AnInvoke(id, linked, class) => invoke_refusal(l, n, id, linked, class, code, par),
+        Passing::AResult(tag, id) => result_refusal(state, n, tag, id, code, par),
+        Passing::AnError(id) => error_refusal(state, n, id, code, par),
+        Passing::AReject(id, problem) => reject_refusal(state, l, n, id, problem),
+    }
+}
+
+// ---- DONE: one slot of our invocations, and what it holds afterwards
+struct Slot {
+    at: usize,
+    holds: Invocation,
+}
+
+// "Pending (passed)", in the first slot that is Idle.
+fn invoked(l: [Invocation; 8], id: u8, class: u32) -> Slot
+    requires { ⌜ (class ≤ 4) × (idleSlot l ≡ mostInvocations → ⊥) ⌝ }
+    ensures { λ r. ⌜ Leaves l (r .at) (r .holds) (withNew l id class) ⌝ }
+{
+    let i = dialogue_invocations::idle_slot(l);
+    let v = Invocation {
+        id,
+        class: class as u8,
+        state: PENDING,
+        shown: 0,
+    };
+    return Slot { at: i, holds: v };
+}
+
+// None is changed: the first holds what it held.
+fn unchanged(l: [Invocation; 8]) -> Slot
+    ensures { λ r. ⌜ Leaves l (r .at) (r .holds) l ⌝ }
+{
+    let v = l[0];
+    return Slot { at: 0, holds: v };
+}
+
 // "Rejecting until transmitted"; an invoke's reject changes no invocation of ours.
-fn rejected_by(c: Control, id: u8, problem: u32) -> Control
-    requires { ⌜ ((kindOf problem ≡ 1 → ⊥) → slotOf (c .invocations) id < 8) ⌝ }
-    ensures { λ r. ⌜ r ≡ rejectedBy c id problem ⌝ }
+fn rejected_by(l: [Invocation; 8], id: u8, problem: u32) -> Slot
+    requires { ⌜ ((kindOf problem ≡ 1 → ⊥) → slotOf l id < mostInvocations) ⌝ }
+    ensures { λ r. ⌜ Leaves l (r .at) (r .holds) (withRejected l id problem) ⌝ }
 {
     if problem / 256 == 1 {
-        return c;
+        return unchanged(l);
     }
-    let l = c.invocations;
     let i = dialogue_invocations::slot_of(l, id as u32);
-    return dialogue_invocations::to_state(c, id as u32, i, REJECTING);
+    let mut v = l[i];
+    v.state = REJECTING;
+    return Slot { at: i, holds: v };
 }
 
-// ---- THE CALLS. An invoke; linked is 256 for none.
-pub fn invoke(
+fn acted(l: [Invocation; 8], what: Passing) -> Slot
+    requires { ⌜ Acts l what ⌝ }
+    ensures { λ r. ⌜ Leaves l (r .at) (r .holds) (invocationsAfter l what) ⌝ }
+{
+    match what {
+        Passing::AnInvoke(id, _linked, class) => invoked(l, id, class),
+        Passing::AResult(_tag, _id) => unchanged(l),
+        Passing::AnError(_id) => unchanged(l),
+        Passing::AReject(id, problem) => rejected_by(l, id, problem),
+    }
+}
+
+// ---- WRITTEN after the n octets that wait, straight into the table
+fn write(t: &mut [u8], at: usize, what: Passing, code: &[u8], par: &[u8]) -> usize
+    requires { ⌜ Writing (now code) (now par) (now t) at what ⌝ }
+    ensures { λ r. ⌜ Wrote (now (t .entry)) at (octetsOf what (now (code .entry)) (now (par .entry))) r (now (t .exit)) ⌝ }
+{
+    match what {
+        Passing::AnInvoke(id, linked, _class) => writing_components::write_invoke(
+            t,
+            at,
+            id,
+            linked,
+            code,
+            par,
+        ),
+        Passing::AResult(tag, id) => writing_components::write_result(t, at, tag, id, code, par),
+        Passing::AnError(id) => writing_components::write_error(t, at, id, code, par),
+        Passing::AReject(id, problem) => writing_components::write_reject(
+            t,
+            at,
+            id as u32,
+            problem,
+        ),
+    }
+}
+
+// ---- THE CALL
+pub fn pass(
     table: &mut [u8],
     service: u32,
     dialogue: u32,
-    id: u8,
-    linked: u32,
-    class: u32,
-    operation: &[u8],
+    what: Passing,
+    code: &[u8],
     parameter: &[u8],
 ) -> Reply
-    requires { ⌜ linked ≤ noID ⌝ }
-    ensures { λ r. ⌜ Gives (outcome (record { table = now (table .entry); rows = []; space = [] }) (OnDialogue service dialogue (Invoke id linked class (now (operation .entry)) (now (parameter .entry))))) (r .answer) (r .rows) (r .length) (r .dialogue) (record { table = now (table .exit); rows = []; space = [] }) ⌝ }
+    requires { ⌜ linkedOf what ≤ noID ⌝ }
+    ensures { λ r. ⌜ Gives (outcome (record { table = now (table .entry); rows = []; space = [] }) (OnDialogue service dialogue (passing what (now (code .entry)) (now (parameter .entry))))) (r .answer) (r .rows) (r .length) (r .dialogue) (record { table = now (table .exit); rows = []; space = [] }) ⌝ }
 {
     let m = call_entry::enter_at(table, NO_SPACE, NO_SPACE, service, dialogue);
     let answer = m.answer;
@@ -191,89 +229,19 @@ pub fn invoke(
         return call_entry::refused(answer);
     }
     let p = m.place;
-    let c = table_places::load(table, p);
-    let n = table_places::waiting_length(table, p);
-    let why = invoke_refusal(c, n, id, linked, class, operation, parameter);
-    if why != 0 {
-        return call_entry::refused(why);
-    }
+    let mut c = table_places::load(table, p);
     let l = c.invocations;
-    let i = dialogue_invocations::idle_slot(l);
-    let d = dialogue_invocations::pass(c, id, class as u8, i);
-    put_invoke(table, p, d, n, id, linked, operation, parameter);
-    return call_entry::done(0, 0);
-}
-
-// A result, last or not last by its tag.
-pub fn result(
-    table: &mut [u8],
-    service: u32,
-    dialogue: u32,
-    tag: u8,
-    id: u8,
-    operation: &[u8],
-    parameter: &[u8],
-) -> Reply
-    ensures { λ r. ⌜ Gives (outcome (record { table = now (table .entry); rows = []; space = [] }) (OnDialogue service dialogue (Result tag id (now (operation .entry)) (now (parameter .entry))))) (r .answer) (r .rows) (r .length) (r .dialogue) (record { table = now (table .exit); rows = []; space = [] }) ⌝ }
-{
-    let m = call_entry::enter_at(table, NO_SPACE, NO_SPACE, service, dialogue);
-    let answer = m.answer;
-    if answer != 0 {
-        return call_entry::refused(answer);
-    }
-    let p = m.place;
-    let c = table_places::load(table, p);
     let n = table_places::waiting_length(table, p);
-    let why = result_refusal(c, n, tag, id, operation, parameter);
+    let why = refusal(c.state, l, n, what, code, parameter);
     if why != 0 {
         return call_entry::refused(why);
     }
-    put_result(table, p, c, n, tag, id, operation, parameter);
-    return call_entry::done(0, 0);
-}
-
-pub fn error(
-    table: &mut [u8],
-    service: u32,
-    dialogue: u32,
-    id: u8,
-    error: &[u8],
-    parameter: &[u8],
-) -> Reply
-    ensures { λ r. ⌜ Gives (outcome (record { table = now (table .entry); rows = []; space = [] }) (OnDialogue service dialogue (Error id (now (error .entry)) (now (parameter .entry))))) (r .answer) (r .rows) (r .length) (r .dialogue) (record { table = now (table .exit); rows = []; space = [] }) ⌝ }
-{
-    let m = call_entry::enter_at(table, NO_SPACE, NO_SPACE, service, dialogue);
-    let answer = m.answer;
-    if answer != 0 {
-        return call_entry::refused(answer);
-    }
-    let p = m.place;
-    let c = table_places::load(table, p);
-    let n = table_places::waiting_length(table, p);
-    let why = error_refusal(c, n, id, error, parameter);
-    if why != 0 {
-        return call_entry::refused(why);
-    }
-    put_error(table, p, c, n, id, error, parameter);
-    return call_entry::done(0, 0);
-}
-
-pub fn reject(table: &mut [u8], service: u32, dialogue: u32, id: u8, problem: u32) -> Reply
-    ensures { λ r. ⌜ Gives (outcome (record { table = now (table .entry); rows = []; space = [] }) (OnDialogue service dialogue (UserReject id problem))) (r .answer) (r .rows) (r .length) (r .dialogue) (record { table = now (table .exit); rows = []; space = [] }) ⌝ }
-{
-    let m = call_entry::enter_at(table, NO_SPACE, NO_SPACE, service, dialogue);
-    let answer = m.answer;
-    if answer != 0 {
-        return call_entry::refused(answer);
-    }
-    let p = m.place;
-    let c = table_places::load(table, p);
-    let n = table_places::waiting_length(table, p);
-    let why = reject_refusal(c, n, id, problem);
-    if why != 0 {
-        return call_entry::refused(why);
-    }
-    let d = rejected_by(c, id, problem);
-    put_reject(table, p, d, n, id, problem);
+    let s = acted(l, what);
+    let i = s.at;
+    let v = s.holds;
+    c.invocations[i] = v;
+    let a = FIRST_WAITING + p * PLACE_OCTETS;
+    let e = write(table, a + n, what, code, parameter);
+    table_places::put_control(table, p, c, (e - a) as u8);
     return call_entry::done(0, 0);
 }

@@ -1,8 +1,11 @@
 // THE CALLS, as a C host sees them (include/tcap.h): each hands on to the crate that has it.
 use call_entry::Reply;
+use call_pass::Passing;
 use call_release::Idler;
 use call_send::Sending;
+use paper::LAST_TAG;
 use paper::NO_ID;
+use paper::NOT_LAST_TAG;
 ghost use mathlib.Core.Path.{_≡_};
 ghost use mathlib.Core.List.{[]};
 ghost use Prim.Native.Nat.{_+_, _≤_};
@@ -49,16 +52,8 @@ pub extern "C" fn tcap_invoke(
     ensures { λ r. ⌜ Gives (outcome (record { table = now (table .entry); rows = []; space = [] }) (OnDialogue service dialogue (Invoke (octetOf id) noID class (now (operation .entry)) (now (parameter .entry))))) (r .answer) (r .rows) (r .length) (r .dialogue) (record { table = now (table .exit); rows = []; space = [] }) ⌝ }
 {
     let octet = call_entry::octet_of(id);
-    call_pass::invoke(
-        table,
-        service,
-        dialogue,
-        octet,
-        NO_ID,
-        class,
-        operation,
-        parameter,
-    )
+    let invoke = Passing::AnInvoke(octet, NO_ID, class);
+    call_pass::pass(table, service, dialogue, invoke, operation, parameter)
 }
 
 #[no_mangle]
@@ -76,16 +71,9 @@ pub extern "C" fn tcap_invoke_linked(
 {
     let octet = call_entry::octet_of(id);
     let other = call_entry::octet_of(linked);
-    call_pass::invoke(
-        table,
-        service,
-        dialogue,
-        octet,
-        other as u32,
-        class,
-        operation,
-        parameter,
-    )
+    let partner = other as u32;
+    let invoke = Passing::AnInvoke(octet, partner, class);
+    call_pass::pass(table, service, dialogue, invoke, operation, parameter)
 }
 
 #[no_mangle]
@@ -100,7 +88,8 @@ pub extern "C" fn tcap_result_last(
     ensures { λ r. ⌜ Gives (outcome (record { table = now (table .entry); rows = []; space = [] }) (OnDialogue service dialogue (Result lastTag (octetOf id) (now (operation .entry)) (now (parameter .entry))))) (r .answer) (r .rows) (r .length) (r .dialogue) (record { table = now (table .exit); rows = []; space = [] }) ⌝ }
 {
     let octet = call_entry::octet_of(id);
-    call_pass::result(table, service, dialogue, 162, octet, operation, parameter)
+    let last = Passing::AResult(LAST_TAG, octet);
+    call_pass::pass(table, service, dialogue, last, operation, parameter)
 }
 
 #[no_mangle]
@@ -115,7 +104,8 @@ pub extern "C" fn tcap_result_not_last(
     ensures { λ r. ⌜ Gives (outcome (record { table = now (table .entry); rows = []; space = [] }) (OnDialogue service dialogue (Result notLastTag (octetOf id) (now (operation .entry)) (now (parameter .entry))))) (r .answer) (r .rows) (r .length) (r .dialogue) (record { table = now (table .exit); rows = []; space = [] }) ⌝ }
 {
     let octet = call_entry::octet_of(id);
-    call_pass::result(table, service, dialogue, 167, octet, operation, parameter)
+    let not_last = Passing::AResult(NOT_LAST_TAG, octet);
+    call_pass::pass(table, service, dialogue, not_last, operation, parameter)
 }
 
 #[no_mangle]
@@ -130,7 +120,8 @@ pub extern "C" fn tcap_error(
     ensures { λ r. ⌜ Gives (outcome (record { table = now (table .entry); rows = []; space = [] }) (OnDialogue service dialogue (Error (octetOf id) (now (error .entry)) (now (parameter .entry))))) (r .answer) (r .rows) (r .length) (r .dialogue) (record { table = now (table .exit); rows = []; space = [] }) ⌝ }
 {
     let octet = call_entry::octet_of(id);
-    call_pass::error(table, service, dialogue, octet, error, parameter)
+    let what = Passing::AnError(octet);
+    call_pass::pass(table, service, dialogue, what, error, parameter)
 }
 
 #[no_mangle]
@@ -144,7 +135,8 @@ pub extern "C" fn tcap_reject(
     ensures { λ r. ⌜ Gives (outcome (record { table = now (table .entry); rows = []; space = [] }) (OnDialogue service dialogue (UserReject (octetOf id) problem))) (r .answer) (r .rows) (r .length) (r .dialogue) (record { table = now (table .exit); rows = []; space = [] }) ⌝ }
 {
     let octet = call_entry::octet_of(id);
-    call_pass::reject(table, service, dialogue, octet, problem)
+    let reject = Passing::AReject(octet, problem);
+    call_pass::pass(table, service, dialogue, reject, b"", b"")
 }
 
 #[no_mangle]

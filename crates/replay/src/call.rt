@@ -3,6 +3,7 @@ ghost use Prim.Native.Nat.{_<_};
 use crate::asked;
 use crate::show;
 use call_entry::Reply;
+use call_pass::Passing;
 use call_release::Idler;
 use call_send::Sending;
 use program_words::Pair;
@@ -98,7 +99,15 @@ fn reject(table: &mut [u8], line: &[u8]) -> Reply {
     let n = asked::on_invocation(line);
     let p = asked::number(line, 4);
     if n.ok && p.ok {
-        return call_pass::reject(table, n.service, n.dialogue, n.id, p.value);
+        let none = &line[0..0];
+        return call_pass::pass(
+            table,
+            n.service,
+            n.dialogue,
+            Passing::AReject(n.id, p.value),
+            none,
+            none,
+        );
     }
     unread()
 }
@@ -106,11 +115,11 @@ fn reject(table: &mut [u8], line: &[u8]) -> Reply {
 fn error(table: &mut [u8], line: &[u8], given: Pair) -> Reply {
     let n = asked::on_invocation(line);
     if n.ok {
-        return call_pass::error(
+        return call_pass::pass(
             table,
             n.service,
             n.dialogue,
-            n.id,
+            Passing::AnError(n.id),
             program_words::cut(line, given.first),
             program_words::cut(line, given.second),
         );
@@ -122,12 +131,11 @@ fn result(table: &mut [u8], line: &[u8], given: Pair) -> Reply {
     let n = asked::on_invocation(line);
     let tag = asked::result_tag(asked::part(line, 4));
     if n.ok && tag > 0 {
-        return call_pass::result(
+        return call_pass::pass(
             table,
             n.service,
             n.dialogue,
-            tag,
-            n.id,
+            Passing::AResult(tag, n.id),
             program_words::cut(line, given.first),
             program_words::cut(line, given.second),
         );
@@ -140,13 +148,11 @@ fn invoke(table: &mut [u8], line: &[u8], given: Pair) -> Reply {
     let linked = asked::linked(asked::part(line, 4));
     let class = asked::number(line, 5);
     if n.ok && linked.ok && class.ok {
-        return call_pass::invoke(
+        return call_pass::pass(
             table,
             n.service,
             n.dialogue,
-            n.id,
-            linked.value,
-            class.value,
+            Passing::AnInvoke(n.id, linked.value, class.value),
             program_words::cut(line, given.first),
             program_words::cut(line, given.second),
         );

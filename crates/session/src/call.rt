@@ -1,5 +1,6 @@
 // A line as a call, by its number of fields and its verb.
 use call_entry::Reply;
+use call_pass::Passing;
 use call_send::Sending;
 use paper::NO_ID;
 use paper::ROW_UNI;
@@ -94,13 +95,11 @@ fn invoke_with(table: &mut [u8], line: &[u8], given: Pair) -> Played {
     let class = program_digits::read_decimal(part(line, 4));
     let i = program_digits::read_id(part(line, 3));
     if s.ok && d.ok && i.ok && class.ok {
-        let r = call_pass::invoke(
+        let r = call_pass::pass(
             table,
             s.value,
             d.value,
-            i.value as u8,
-            NO_ID,
-            class.value,
+            Passing::AnInvoke(i.value as u8, NO_ID, class.value),
             program_words::cut(line, given.first),
             program_words::cut(line, given.second),
         );

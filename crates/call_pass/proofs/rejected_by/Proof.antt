@@ -1,33 +1,31 @@
-use Rattle.paper.specs.Dialogues.{rejectedBy}
+use native.Mathlib.Omega.{arith}
 use Rattle.laws.specs.If.{eq, ne}
-use Prim.Native.Nat.{ℕ, _<_}
-use mathlib.Core.Path.{refl, sym, subst}
+use Rattle.paper.specs.Invocations.{invocationOf}
 use borrow.Author.Needs.{needs}
 use Rattle.call_pass.proofs.rejected_by.Statement.{statement}
 use Rattle.call_pass.proofs.rejected_by.Tie as tie
 
+unchanged-requires : tie.Need-unchanged-requires
+unchanged-requires c κs = search needs
+
 returns : tie.Need-returns
-unfolding rejectedBy
-returns c =
-    let if1 = c .if1 in
-    eq _ _ _ _ (if1 .taken) refl
+returns c = record { slot = c .unchanged .ensures .slot; is = eq _ _ _ _ (c .before .if1 .taken) (c .unchanged .ensures .is) }
 
 slot-of-requires : tie.Need-slot-of-requires
 slot-of-requires c κs = search needs
 
-to-state-requires : tie.Need-to-state-requires
-to-state-requires c κs =
-    let pre = c .before .before .before .pre in
-    let if1 = c .before .before .if1 in
-    let slot-of = c .slot-of in
-    (subst (λ (k : ℕ). k < 8) (sym (slot-of .ensures .0)) (pre (if1 .left)), slot-of .ensures .0)
+mul-v : tie.Need-mul-v
+mul-v c = search needs
+
+array-copy-out-v : tie.Need-array-copy-out-v
+array-copy-out-v c = omega (arith, c .before .before .pre (c .before .if1 .left))
 
 returns-2 : tie.Need-returns-2
-unfolding rejectedBy
+unfolding invocationOf
 returns-2 c =
-    let if1 = c .before .before .before .if1 in
-    let to-state = c .to-state in
-    ne _ _ _ _ (if1 .left) (to-state .ensures)
+    record { slot = omega (arith, c .before .before .before .pre (c .before .before .if1 .left)); is = ne _ _ _ _ (c .before .before .if1 .left) (cc) }
 
 pub rejected-by-spec : {M : Type 1} → statement M
-rejected-by-spec = tie.close (tie.spec returns slot-of-requires to-state-requires returns-2)
+rejected-by-spec =
+    tie.close
+    (tie.spec unchanged-requires returns slot-of-requires mul-v array-copy-out-v returns-2)

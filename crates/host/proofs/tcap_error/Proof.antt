@@ -9,8 +9,8 @@ use Rattle.host.proofs.tcap_error.Tie as tie
 octet-of-requires : tie.Need-octet-of-requires
 octet-of-requires c κs = search needs
 
-error-requires : tie.Need-error-requires
-error-requires c κs = search needs
+pass-requires : tie.Need-pass-requires
+pass-requires c κs = search needs
 
 same-length : tie.Need-same-length
 same-length c = search needs
@@ -19,7 +19,7 @@ returns : tie.Need-returns
 returns c =
     let start = c .before .before .before .before .before .before .before .before in
     let a = start .args in
-    of-octet _ (λ (o : ℕ). OnDialogue (a .service) (a .dialogue) (Error o (a .error .now) (a .parameter .now))) (a .id) (start .fits .id) (c .before .before .before .before .octet-of .ensures) (c .before .before .error .ensures)
+    of-octet _ (λ (o : ℕ). OnDialogue (a .service) (a .dialogue) (Error o (a .error .now) (a .parameter .now))) (a .id) (start .fits .id) (c .before .before .before .before .octet-of .ensures) (c .before .before .pass .ensures)
 
 pub tcap-error-spec : {M : Type 1} → statement M
-tcap-error-spec = tie.close (tie.spec octet-of-requires error-requires same-length returns)
+tcap-error-spec = tie.close (tie.spec octet-of-requires pass-requires same-length returns)

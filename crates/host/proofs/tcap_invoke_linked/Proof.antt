@@ -13,11 +13,11 @@ octet-of-requires c κs = search needs
 octet-of-requires-2 : tie.Need-octet-of-requires-2
 octet-of-requires-2 c κs = search needs
 
-cast-invoke : tie.Need-cast-invoke
-cast-invoke c = search needs
+cast-partner : tie.Need-cast-partner
+cast-partner c = search needs
 
-invoke-requires : tie.Need-invoke-requires
-invoke-requires c κs = search needs
+pass-requires : tie.Need-pass-requires
+pass-requires c κs = search needs
 
 same-length : tie.Need-same-length
 same-length c = search needs
@@ -28,7 +28,7 @@ returns c =
     let a = start .args in
     let other = c .before .before .before .before .octet-of2 in
     of-octet _ (λ (o : ℕ). OnDialogue (a .service) (a .dialogue) (Invoke (octetOf (a .id)) o (a .class) (a .operation .now) (a .parameter .now))) (a .linked) (start .fits .linked) (other .ensures)
-    (of-octet _ (λ (o : ℕ). OnDialogue (a .service) (a .dialogue) (Invoke o (other .result) (a .class) (a .operation .now) (a .parameter .now))) (a .id) (start .fits .id) (c .before .before .before .before .before .octet-of .ensures) (c .before .before .invoke .ensures))
+    (of-octet _ (λ (o : ℕ). OnDialogue (a .service) (a .dialogue) (Invoke o (other .result) (a .class) (a .operation .now) (a .parameter .now))) (a .id) (start .fits .id) (c .before .before .before .before .before .octet-of .ensures) (c .before .before .pass .ensures))
 
 pub tcap-invoke-linked-spec : {M : Type 1} → statement M
 tcap-invoke-linked-spec =
@@ -36,7 +36,7 @@ tcap-invoke-linked-spec =
     (tie.spec
     octet-of-requires
     octet-of-requires-2
-    cast-invoke
-    invoke-requires
+    cast-partner
+    pass-requires
     same-length
     returns)
