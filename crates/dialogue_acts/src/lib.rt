@@ -4,12 +4,14 @@ ghost use mathlib.Core.Path.{_≡_};
 ghost use Prim.Native.Nat.{ℕ, _<_};
 ghost use lib.ListN.{getD};
 ghost use Rattle.paper.specs.declared.Control.{Control};
+ghost use Rattle.paper.specs.Sizes.{mostInvocations, mostRejects};
 ghost use Rattle.paper.specs.Invocations.{noInvocation, sent, slotOf, takes, answerKind, answerProblem, answersSent, answers, invokes, released, rejectKind, rejects, isAnswer, faults, act, withReject};
 ghost use Rattle.dialogue_acts.specs.Told.{storedKind, turned, changed, does, stay};
 use paper::Component;
 use paper::Control;
 use paper::IDLE;
 use paper::Invocation;
+use paper::MOST_INVOCATIONS;
 use paper::NO_FAULT;
 use paper::NO_ID;
 use paper::NO_PROBLEM;
@@ -116,7 +118,7 @@ fn answer_problem(tag: u8, code: u32) -> u32
 
 // An answer to the Sent invocation in slot i; kind is that of a reject of ours, here and below.
 fn answer_sent(l: [Invocation; 8], i: usize, tag: u8, kind: u32) -> Told
-    requires { ⌜ (i < 8) × (getD l i noInvocation .state ≡ sent) ⌝ }
+    requires { ⌜ (i < mostInvocations) × (getD l i noInvocation .state ≡ sent) ⌝ }
     ensures is { λ r. ⌜ ((room id : ℕ) (c : Control) → l ≡ c .invocations → i ≡ slotOf l id → kind ≡ storedKind room (c .count) → does c id r ≡ answersSent room c tag id) ⌝ }
     ensures waits { λ r. ⌜ (r .kind ≡ 13 → kind ≡ 13) ⌝ }
 {
@@ -280,7 +282,7 @@ pub fn is_change(t: Told) -> bool
     if t.kind == ROW_REJECTED {
         return true;
     }
-    t.slot < 8
+    t.slot < MOST_INVOCATIONS
 }
 
 // Its invocation put, or to Idle.
@@ -301,7 +303,7 @@ fn turned(c: Control, id: u32, t: Told) -> Control
 
 // A reject of ours waits.
 fn wait(c: Control, id: u32, problem: u32) -> Control
-    requires { ⌜ c .count < 8 ⌝ }
+    requires { ⌜ c .count < mostRejects ⌝ }
     ensures { λ r. ⌜ r ≡ withReject c (record { id = id; problem = problem }) ⌝ }
 {
     let n = c.count;
@@ -314,7 +316,7 @@ fn wait(c: Control, id: u32, problem: u32) -> Control
 
 // The control record after a component with that ID.
 pub fn changed(c: Control, id: u32, t: Told) -> Control
-    requires { ⌜ (t .kind ≡ 13 → c .count < 8) ⌝ }
+    requires { ⌜ (t .kind ≡ 13 → c .count < mostRejects) ⌝ }
     ensures { λ r. ⌜ r ≡ changed c id t ⌝ }
 {
     let d = turned(c, id, t);

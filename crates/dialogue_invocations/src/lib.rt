@@ -4,11 +4,13 @@ ghost use mathlib.Core.Path.{_≡_};
 ghost use Prim.Native.Nat.{ℕ, _+_, _<_, _≤_};
 ghost use mathlib.Core.List.{[], map};
 ghost use lib.ListN.{length, getD};
-ghost use Rattle.paper.specs.Invocations.{noInvocation, isOpen, isIdle, slotOf, idleSlot, invocationOf, withInvocation, toState, toIdle, allIdle, passed, transmitted, rejectingIDs, allTransmitted, rejecting, mayReject};
+ghost use Rattle.paper.specs.Sizes.{mostInvocations};
+ghost use Rattle.paper.specs.Invocations.{noInvocation, isOpen, isIdle, slotOf, idleSlot, invocationOf, withInvocation, toIdle, allIdle, transmitted, rejectingIDs, allTransmitted, rejecting, mayReject};
 ghost use Rattle.laws.specs.If.{ifEq};
 use paper::Control;
 use paper::IDLE;
 use paper::Invocation;
+use paper::MOST_INVOCATIONS;
 use paper::PENDING;
 use paper::REJECTING;
 use paper::SENT;
@@ -28,7 +30,7 @@ fn all_idle(l: [Invocation; 8]) -> bool
     ensures { λ r. ⌜ (r ≡ true → (id : ℕ) → slotOf l id ≡ 8) ⌝ }
 {
     let mut i: usize = 0;
-    while i < 8 {
+    while i < MOST_INVOCATIONS {
         if is_idle(l[i]) {
             i += 1;
         } else {
@@ -47,7 +49,7 @@ pub fn slot_of(l: [Invocation; 8], id: u32) -> usize
         return 8;
     }
     let mut i: usize = 0;
-    while i < 8 {
+    while i < MOST_INVOCATIONS {
         if is_open(id, l[i]) {
             return i;
         }
@@ -68,7 +70,7 @@ pub fn idle_slot(l: [Invocation; 8]) -> usize
     ensures within { λ r. ⌜ r ≤ 8 ⌝ }
 {
     let mut i: usize = 0;
-    while i < 8 {
+    while i < MOST_INVOCATIONS {
         if is_idle(l[i]) {
             return i;
         }
@@ -93,7 +95,7 @@ pub fn invocation_at(l: [Invocation; 8], i: usize) -> Invocation
     requires { ⌜ i ≤ 8 ⌝ }
     ensures { λ r. ⌜ r ≡ getD l i noInvocation ⌝ }
 {
-    if i < 8 {
+    if i < MOST_INVOCATIONS {
         return l[i];
     }
     no_invocation()
@@ -103,9 +105,9 @@ pub fn invocation_at(l: [Invocation; 8], i: usize) -> Invocation
 pub fn state_at(l: [Invocation; 8], i: usize) -> u8
     requires { ⌜ i ≤ 8 ⌝ }
     ensures is { λ r. ⌜ r ≡ getD l i noInvocation .state ⌝ }
-    ensures there { λ r. ⌜ (0 < r → i < 8) ⌝ }
+    ensures there { λ r. ⌜ (0 < r → i < mostInvocations) ⌝ }
 {
-    if i < 8 {
+    if i < MOST_INVOCATIONS {
         let v = l[i];
         return v.state;
     }
@@ -129,7 +131,7 @@ pub fn invocation_of(l: [Invocation; 8], id: u32) -> Invocation
 }
 
 pub fn put_invocation(c: Control, i: usize, v: Invocation) -> Control
-    requires { ⌜ i < 8 ⌝ }
+    requires { ⌜ i < mostInvocations ⌝ }
     ensures { λ r. ⌜ r ≡ withInvocation c i v ⌝ }
 {
     let mut d = c;
@@ -139,7 +141,7 @@ pub fn put_invocation(c: Control, i: usize, v: Invocation) -> Control
 
 // EVERY WAY TO IDLE: the invocation of an ID, in slot i.
 pub fn to_idle(c: Control, id: u32, i: usize) -> Control
-    requires { ⌜ (i < 8) × (i ≡ slotOf (c .invocations) id) ⌝ }
+    requires { ⌜ (i < mostInvocations) × (i ≡ slotOf (c .invocations) id) ⌝ }
     ensures { λ r. ⌜ r ≡ toIdle c id ⌝ }
 {
     let v = no_invocation();
@@ -152,35 +154,10 @@ pub fn release(c: Control, id: u32) -> Control
 {
     let l = c.invocations;
     let i = slot_of(l, id);
-    if i < 8 {
+    if i < MOST_INVOCATIONS {
         return to_idle(c, id, i);
     }
     c
-}
-
-// To a state in use.
-pub fn to_state(c: Control, id: u32, i: usize, state: u8) -> Control
-    requires { ⌜ (i < 8) × (i ≡ slotOf (c .invocations) id) ⌝ }
-    ensures { λ r. ⌜ r ≡ toState c id state ⌝ }
-{
-    let l = c.invocations;
-    let mut v = l[i];
-    v.state = state;
-    put_invocation(c, i, v)
-}
-
-// A new invocation, Pending, in slot i.
-pub fn pass(c: Control, id: u8, class: u8, i: usize) -> Control
-    requires { ⌜ (i < 8) × (i ≡ idleSlot (c .invocations)) ⌝ }
-    ensures { λ r. ⌜ r ≡ passed c id class ⌝ }
-{
-    let v = Invocation {
-        id,
-        class,
-        state: PENDING,
-        shown: 0,
-    };
-    put_invocation(c, i, v)
 }
 
 // Whether the user may reject with a problem of that kind.
@@ -219,7 +196,7 @@ fn transmit_all(l: [Invocation; 8]) -> [Invocation; 8]
 {
     let mut m = l;
     let mut i: usize = 0;
-    while i < 8 {
+    while i < MOST_INVOCATIONS {
         m[i] = transmit(l[i]);
         i += 1;
     }
@@ -231,7 +208,7 @@ fn none_rejecting(l: [Invocation; 8]) -> bool
     ensures { λ r. ⌜ (r ≡ true → rejectingIDs l ≡ []) ⌝ }
 {
     let mut i: usize = 0;
-    while i < 8 {
+    while i < MOST_INVOCATIONS {
         let w = l[i];
         if w.state == REJECTING {
             return false;
@@ -247,7 +224,7 @@ fn settle_all(c: Control, l: [Invocation; 8]) -> Control
 {
     let mut d = c;
     let mut i: usize = 0;
-    while i < 8 {
+    while i < MOST_INVOCATIONS {
         let v = l[i];
         if v.state == REJECTING {
             d = release(d, laws::number(v.id));

@@ -4,6 +4,7 @@ use paper::DIALOGUE_FREE;
 use paper::FIRST_WAITING;
 use paper::INVOCATIONS;
 use paper::Invocation;
+use paper::MOST_INVOCATIONS;
 use paper::MOST_WAITING;
 use paper::PLACE_OCTETS;
 use paper::PLACES;
@@ -172,7 +173,7 @@ fn invocation_octets(l: [Invocation; 8]) -> [u8; 16]
 {
     let mut o: [u8; 16] = [0; 16];
     let mut i: usize = 0;
-    while i < 8 {
+    while i < MOST_INVOCATIONS {
         let v = l[i];
         o[2 * i] = v.id;
         o[2 * i + 1] = invocation_mark(v);
