@@ -334,13 +334,13 @@ waits-end s n k e = ap (λ (i : ℕ). rejectsKept (n - i) (rejectsFrom i s)) e
 
 -- ---- a free place by its words
 pub free-words : (s : List ℕ) → length s ≡ placeSize → getD s stateAt 0 ≡ 0
-    → zeros (drop stateAt s) ≡ ifEq (wordAt s serviceAt) 0 (ifEq (wordAt s firstInvocation) 0 (ifEq (wordAt s (firstInvocation + 8)) 0 (zeros (drop firstReject s)) false) false) false
+    → zeros (drop stateAt s) ≡ ifEq (wordAt s serviceAt) 0 (ifEq (wordAt s (serviceAt + 8)) 0 (ifEq (wordAt s (serviceAt + 16)) 0 (zeros (drop (serviceAt + 24) s)) false) false) false
 free-words s e z =
     run-step s stateAt (omega arith)
     ∙ sym (eq _ _ _ _ z refl)
     ∙ word-step s serviceAt (omega arith)
     ∙ ap (λ (r : Bool). ifEq (wordAt s serviceAt) 0 r false)
-    (word-step s firstInvocation (omega arith) ∙ ap (λ (r : Bool). ifEq (wordAt s firstInvocation) 0 r false) (word-step s (firstInvocation + 8) (omega arith)))
+    (word-step s (serviceAt + 8) (omega arith) ∙ ap (λ (r : Bool). ifEq (wordAt s (serviceAt + 8)) 0 r false) (word-step s (serviceAt + 16) (omega arith)))
 
 -- ---- the waiting octets
 pub octets-none : (s : List ℕ) (n : ℕ) → n ≡ 0 → zeros (drop waitingStart s) ≡ octetsKept n s

@@ -48,6 +48,13 @@ const LAST_INVOCATIONS: usize = INVOCATIONS + WORD;
 
 const LAST_REJECTS: usize = REJECTS + WORD;
 
+// The second and third word after a place's state, and what follows, whatever fields lie there.
+const SECOND_WORD: usize = SERVICE + WORD;
+
+const THIRD_WORD: usize = SERVICE + 2 * WORD;
+
+const AFTER_WORDS: usize = SERVICE + 3 * WORD;
+
 // The kind of a place that breaks a rule; the others are the services, and SERVICES for a free place.
 const BROKEN: usize = SERVICES + 1;
 
@@ -68,7 +75,7 @@ fn zeros_from(rec: &[u8], k: usize) -> bool
     acc == 0
 }
 
-// "a free place is all zero but its turn": its state is 0.
+// "a free place is all zero but its turn": its state is 0. Three words first, so that the rest is a run of whole vectors.
 fn free_kept(rec: &[u8]) -> bool
     requires { ⌜ (length (now rec) ≡ placeSize) × (getD (now rec) stateAt 0 ≡ 0) ⌝ }
     ensures { λ r. ⌜ r ≡ zeros (drop stateAt (now (rec .entry))) ⌝ }
@@ -76,13 +83,13 @@ fn free_kept(rec: &[u8]) -> bool
     if table_map::word(rec, SERVICE) != 0 {
         return false;
     }
-    if table_map::word(rec, INVOCATIONS) != 0 {
+    if table_map::word(rec, SECOND_WORD) != 0 {
         return false;
     }
-    if table_map::word(rec, LAST_INVOCATIONS) != 0 {
+    if table_map::word(rec, THIRD_WORD) != 0 {
         return false;
     }
-    zeros_from(rec, REJECTS)
+    zeros_from(rec, AFTER_WORDS)
 }
 
 // "octets and invocations not in use are zero; states .. classes .. are in range": of one invocation, by its two octets, so that the
