@@ -2,14 +2,14 @@ use mathlib.Core.Path.{_≡_}
 use lib.ListN.{length}
 use Rattle.program_lines.specs.Within.{Within}
 use borrow.Author.Needs.{needs}
-use Rattle.session.proofs.session.Statement.{statement}
-use Rattle.session.proofs.session.Tie as tie
+use Rattle.program_play.proofs.lines.Statement.{statement}
+use Rattle.program_play.proofs.lines.Tie as tie
 
 abbrev Inv-loop : tie.InvT-loop
-Inv-loop buf₀ table₀ rows₀ space₀ line₀ l₀ turns₀ buf table rows space line l turns = Within (length buf) (length line) l × (length buf ≡ length buf₀) × (length table ≡ length table₀) × (length rows ≡ length rows₀) × (length space ≡ length space₀) × (length line ≡ length line₀)
+Inv-loop player buf₀ table₀ rows₀ space₀ line₀ l₀ turns₀ buf table rows space line l turns = Within (length buf) (length line) l × (length buf ≡ length buf₀) × (length table ≡ length table₀) × (length rows ≡ length rows₀) × (length space ≡ length space₀) × (length line ≡ length line₀)
 
 abbrev μ-loop : tie.MeasureT-loop
-μ-loop buf₀ table₀ rows₀ space₀ line₀ l₀ turns₀ buf table rows space line l turns = turns
+μ-loop player buf₀ table₀ rows₀ space₀ line₀ l₀ turns₀ buf table rows space line l turns = turns
 
 start-requires : tie.Need-start-requires Inv-loop μ-loop
 start-requires c κs = search needs
@@ -68,8 +68,8 @@ same-length-10 c = search needs
 returns-2 : tie.Need-returns-2 Inv-loop μ-loop
 returns-2 c = search needs
 
-pub session-spec : {M : Type 1} → statement M
-session-spec =
+pub lines-spec : {M : Type 1} → statement M
+lines-spec =
     tie.close
     (tie.spec
     Inv-loop
