@@ -1,10 +1,4 @@
 // The lines of standard input played on one table. There are no function values, so the one loop is over whose lines they are.
-mod replay_asked;
-mod replay_call;
-mod replay_show;
-mod session_call;
-mod session_show;
-
 ghost use Prim.Native.Nat.{_≤_};
 ghost use lib.ListN.{length};
 use program_lines::Line;
@@ -40,11 +34,10 @@ fn play(
     let n = l.count;
     match player {
         Player::Replay => {
-            replay_call::play(table, rows, space, &mut line[0..n], l.number);
+            program_replay::play(table, rows, space, &mut line[0..n], l.number);
         }
         Player::Session => {
-            let p = session_call::play(table, rows, space, &mut line[0..n]);
-            session_show::line(l.number, p, table, space);
+            program_session::play(table, rows, space, &mut line[0..n], l.number);
         }
     }
 }

@@ -1,7 +1,7 @@
 // What a line gave, as a line of text.
 ghost use Prim.Native.Nat.{_≤_};
 ghost use lib.ListN.{length};
-use crate::session_call::Played;
+use crate::call::Played;
 use paper::DIALOGUE_ACTIVE;
 use paper::DIALOGUE_OPEN;
 use paper::DIALOGUE_RECEIVED;

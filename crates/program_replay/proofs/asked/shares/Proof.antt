@@ -2,8 +2,8 @@ use mathlib.Core.Path.{_≡_}
 use Prim.Native.Nat.{_-_, _≤_}
 use lib.ListN.{length}
 use borrow.Author.Needs.{needs}
-use Rattle.program_play.proofs.replay_asked.shares.Statement.{statement}
-use Rattle.program_play.proofs.replay_asked.shares.Tie as tie
+use Rattle.program_replay.proofs.asked.shares.Statement.{statement}
+use Rattle.program_replay.proofs.asked.shares.Tie as tie
 
 abbrev Inv-loop : tie.InvT-loop
 Inv-loop s out₀ i₀ out i = (i ≤ 16) × (length out ≡ length out₀)

@@ -1,7 +1,7 @@
 // A line of the input: a call, by its number of fields and its verb.
 ghost use Prim.Native.Nat.{_<_};
-use crate::replay_asked;
-use crate::replay_show;
+use crate::asked;
+use crate::show;
 use call_entry::Reply;
 use call_pass::Passing;
 use call_release::Idler;
@@ -18,8 +18,8 @@ fn unread() -> Reply {
 fn fresh(table: &mut [u8], line: &[u8]) -> Reply {
     let mut guarantees = [0u8; 16];
     let mut limits = [0u8; 16];
-    if replay_asked::shares(replay_asked::part(line, 1), &mut guarantees) {
-        if replay_asked::shares(replay_asked::part(line, 2), &mut limits) {
+    if asked::shares(asked::part(line, 1), &mut guarantees) {
+        if asked::shares(asked::part(line, 2), &mut limits) {
             return call_open::fresh(table, &guarantees, &limits);
         }
     }
@@ -27,9 +27,9 @@ fn fresh(table: &mut [u8], line: &[u8]) -> Reply {
 }
 
 fn open_for(table: &mut [u8], line: &[u8]) -> Reply {
-    let s = replay_asked::number(line, 1);
+    let s = asked::number(line, 1);
     if s.ok {
-        if replay_asked::verb(line, b"open") {
+        if asked::verb(line, b"open") {
             return call_open::open(table, s.value);
         }
     }
@@ -37,8 +37,8 @@ fn open_for(table: &mut [u8], line: &[u8]) -> Reply {
 }
 
 fn receive(table: &mut [u8], rows: &mut [u8], space: &mut [u8], line: &mut [u8]) -> Reply {
-    let s = replay_asked::number(line, 1);
-    let f = replay_asked::field(line, 2);
+    let s = asked::number(line, 1);
+    let f = asked::field(line, 2);
     let m = program_words::octets_or_none(line, f);
     if s.ok && m.ok {
         return call_receive::receive(table, s.value, program_words::cut(line, m), rows, space);
@@ -48,14 +48,14 @@ fn receive(table: &mut [u8], rows: &mut [u8], space: &mut [u8], line: &mut [u8])
 
 // A request or an event that names a dialogue alone.
 fn on_dialogue(table: &mut [u8], rows: &mut [u8], line: &[u8]) -> Reply {
-    let n = replay_asked::on_dialogue(line);
+    let n = asked::on_dialogue(line);
     let service = n.service;
     let dialogue = n.dialogue;
     if n.ok {
-        if replay_asked::verb(line, b"prearranged") {
+        if asked::verb(line, b"prearranged") {
             return call_release::end_prearranged(table, service, dialogue);
         }
-        if replay_asked::verb(line, b"noreaction") {
+        if asked::verb(line, b"noreaction") {
             return call_release::no_reaction(table, service, dialogue, rows);
         }
     }
@@ -63,8 +63,8 @@ fn on_dialogue(table: &mut [u8], rows: &mut [u8], line: &[u8]) -> Reply {
 }
 
 fn abort(table: &mut [u8], space: &mut [u8], line: &mut [u8]) -> Reply {
-    let n = replay_asked::on_dialogue(line);
-    let f = replay_asked::field(line, 3);
+    let n = asked::on_dialogue(line);
+    let f = asked::field(line, 3);
     let p = program_words::octets_or_none(line, f);
     if n.ok && p.ok {
         return call_send::send_abort(
@@ -80,15 +80,15 @@ fn abort(table: &mut [u8], space: &mut [u8], line: &mut [u8]) -> Reply {
 
 // One that names an invocation too.
 fn on_invocation(table: &mut [u8], rows: &mut [u8], line: &[u8]) -> Reply {
-    let n = replay_asked::on_invocation(line);
+    let n = asked::on_invocation(line);
     if n.ok {
-        if replay_asked::verb(line, b"cancel") {
+        if asked::verb(line, b"cancel") {
             return call_release::idle(table, n.service, n.dialogue, n.id, Idler::User);
         }
-        if replay_asked::verb(line, b"timeout") {
+        if asked::verb(line, b"timeout") {
             return call_release::timeout(table, n.service, n.dialogue, n.id, rows);
         }
-        if replay_asked::verb(line, b"rejtimeout") {
+        if asked::verb(line, b"rejtimeout") {
             return call_release::idle(table, n.service, n.dialogue, n.id, Idler::RejectTimer);
         }
     }
@@ -96,8 +96,8 @@ fn on_invocation(table: &mut [u8], rows: &mut [u8], line: &[u8]) -> Reply {
 }
 
 fn reject(table: &mut [u8], line: &[u8]) -> Reply {
-    let n = replay_asked::on_invocation(line);
-    let p = replay_asked::number(line, 4);
+    let n = asked::on_invocation(line);
+    let p = asked::number(line, 4);
     if n.ok && p.ok {
         let none = &line[0..0];
         return call_pass::pass(
@@ -113,7 +113,7 @@ fn reject(table: &mut [u8], line: &[u8]) -> Reply {
 }
 
 fn error(table: &mut [u8], line: &[u8], given: Pair) -> Reply {
-    let n = replay_asked::on_invocation(line);
+    let n = asked::on_invocation(line);
     if n.ok {
         return call_pass::pass(
             table,
@@ -128,8 +128,8 @@ fn error(table: &mut [u8], line: &[u8], given: Pair) -> Reply {
 }
 
 fn result(table: &mut [u8], line: &[u8], given: Pair) -> Reply {
-    let n = replay_asked::on_invocation(line);
-    let tag = replay_asked::result_tag(replay_asked::part(line, 4));
+    let n = asked::on_invocation(line);
+    let tag = asked::result_tag(asked::part(line, 4));
     if n.ok && tag > 0 {
         return call_pass::pass(
             table,
@@ -144,9 +144,9 @@ fn result(table: &mut [u8], line: &[u8], given: Pair) -> Reply {
 }
 
 fn invoke(table: &mut [u8], line: &[u8], given: Pair) -> Reply {
-    let n = replay_asked::on_invocation(line);
-    let linked = replay_asked::linked(replay_asked::part(line, 4));
-    let class = replay_asked::number(line, 5);
+    let n = asked::on_invocation(line);
+    let linked = asked::linked(asked::part(line, 4));
+    let class = asked::number(line, 5);
     if n.ok && linked.ok && class.ok {
         return call_pass::pass(
             table,
@@ -162,13 +162,13 @@ fn invoke(table: &mut [u8], line: &[u8], given: Pair) -> Reply {
 
 // A sending, with a context name and user information.
 fn send(table: &mut [u8], space: &mut [u8], line: &[u8], given: Pair) -> Reply {
-    let n = replay_asked::on_dialogue(line);
+    let n = asked::on_dialogue(line);
     let service = n.service;
     let dialogue = n.dialogue;
     let name = program_words::cut(line, given.first);
     let information = program_words::cut(line, given.second);
     if n.ok {
-        if replay_asked::verb(line, b"begin") {
+        if asked::verb(line, b"begin") {
             return call_send::send(
                 table,
                 service,
@@ -179,7 +179,7 @@ fn send(table: &mut [u8], space: &mut [u8], line: &[u8], given: Pair) -> Reply {
                 space,
             );
         }
-        if replay_asked::verb(line, b"continue") {
+        if asked::verb(line, b"continue") {
             return call_send::send(
                 table,
                 service,
@@ -190,7 +190,7 @@ fn send(table: &mut [u8], space: &mut [u8], line: &[u8], given: Pair) -> Reply {
                 space,
             );
         }
-        if replay_asked::verb(line, b"end") {
+        if asked::verb(line, b"end") {
             return call_send::send(
                 table,
                 service,
@@ -201,7 +201,7 @@ fn send(table: &mut [u8], space: &mut [u8], line: &[u8], given: Pair) -> Reply {
                 space,
             );
         }
-        if replay_asked::verb(line, b"uni") {
+        if asked::verb(line, b"uni") {
             return call_send::send(
                 table,
                 service,
@@ -225,13 +225,13 @@ fn with_pair(table: &mut [u8], space: &mut [u8], line: &mut [u8], k: usize) -> R
         if k == 3 {
             return send(table, space, line, given);
         }
-        if k == 4 && replay_asked::verb(line, b"error") {
+        if k == 4 && asked::verb(line, b"error") {
             return error(table, line, given);
         }
-        if k == 5 && replay_asked::verb(line, b"result") {
+        if k == 5 && asked::verb(line, b"result") {
             return result(table, line, given);
         }
-        if k == 6 && replay_asked::verb(line, b"invoke") {
+        if k == 6 && asked::verb(line, b"invoke") {
             return invoke(table, line, given);
         }
     }
@@ -240,24 +240,24 @@ fn with_pair(table: &mut [u8], space: &mut [u8], line: &mut [u8], k: usize) -> R
 
 // Two blanks: a fresh table, a message, or a dialogue alone.
 fn with_three(table: &mut [u8], rows: &mut [u8], space: &mut [u8], line: &mut [u8]) -> Reply {
-    if replay_asked::verb(line, b"fresh") {
+    if asked::verb(line, b"fresh") {
         return fresh(table, line);
     }
-    if replay_asked::verb(line, b"recv") {
+    if asked::verb(line, b"recv") {
         return receive(table, rows, space, line);
     }
     on_dialogue(table, rows, line)
 }
 
 fn with_four(table: &mut [u8], rows: &mut [u8], space: &mut [u8], line: &mut [u8]) -> Reply {
-    if replay_asked::verb(line, b"abort") {
+    if asked::verb(line, b"abort") {
         return abort(table, space, line);
     }
     on_invocation(table, rows, line)
 }
 
 fn with_five(table: &mut [u8], space: &mut [u8], line: &mut [u8]) -> Reply {
-    if replay_asked::verb(line, b"reject") {
+    if asked::verb(line, b"reject") {
         return reject(table, line);
     }
     with_pair(table, space, line, 3)
@@ -292,12 +292,12 @@ fn reply_to(table: &mut [u8], rows: &mut [u8], space: &mut [u8], line: &mut [u8]
 // `parameter OCTETS START LENGTH`
 fn parameter(line: &mut [u8], number: u64) {
     let n = program_words::separators(line, b' ');
-    let start = replay_asked::number(line, 2);
-    let count = replay_asked::number(line, 3);
-    let f = replay_asked::field(line, 1);
+    let start = asked::number(line, 2);
+    let count = asked::number(line, 3);
+    let f = asked::field(line, 1);
     let m = program_words::octets_or_none(line, f);
     if n == 3 && start.ok && count.ok && m.ok {
-        replay_show::parameter_line(
+        show::parameter_line(
             program_words::cut(line, m),
             start.value as usize,
             count.value as usize,
@@ -310,9 +310,9 @@ fn parameter(line: &mut [u8], number: u64) {
 // `portion OCTETS START LENGTH`
 fn portion(rows: &mut [u8], line: &mut [u8], number: u64) {
     let n = program_words::separators(line, b' ');
-    let start = replay_asked::number(line, 2);
-    let count = replay_asked::number(line, 3);
-    let f = replay_asked::field(line, 1);
+    let start = asked::number(line, 2);
+    let count = asked::number(line, 3);
+    let f = asked::field(line, 1);
     let m = program_words::octets_or_none(line, f);
     if n == 3 && start.ok && count.ok && m.ok {
         call_portion::portion(
@@ -321,7 +321,7 @@ fn portion(rows: &mut [u8], line: &mut [u8], number: u64) {
             count.value as usize,
             rows,
         );
-        replay_show::portion_line(rows);
+        show::portion_line(rows);
         return;
     }
     program_lines::bad(number, b' ');
@@ -329,11 +329,11 @@ fn portion(rows: &mut [u8], line: &mut [u8], number: u64) {
 
 // `components OCTETS`
 fn components(line: &mut [u8], number: u64) {
-    let f = replay_asked::field(line, 1);
+    let f = asked::field(line, 1);
     let n = program_words::separators(line, b' ');
     let m = program_words::octets_or_none(line, f);
     if n == 1 && m.ok {
-        replay_show::component_lines(program_words::cut(line, m));
+        show::component_lines(program_words::cut(line, m));
         return;
     }
     program_lines::bad(number, b' ');
@@ -350,36 +350,36 @@ fn passed_over(line: &[u8]) -> bool {
     if program_words::separators(line, b' ') == 0 {
         return false;
     }
-    if replay_asked::verb(line, b"r") {
+    if asked::verb(line, b"r") {
         return true;
     }
-    replay_asked::verb(line, b"c")
+    asked::verb(line, b"c")
 }
 
 fn called(table: &mut [u8], rows: &mut [u8], space: &mut [u8], line: &mut [u8], number: u64) {
-    let opens = replay_asked::verb(line, b"open");
+    let opens = asked::verb(line, b"open");
     let r = reply_to(table, rows, space, line);
     if r.answer == UNREAD {
         program_lines::bad(number, b' ');
         return;
     }
-    replay_show::reply(r, opens, space);
-    replay_show::row_lines(rows, r.rows);
+    show::reply(r, opens, space);
+    show::row_lines(rows, r.rows);
 }
 
 pub fn play(table: &mut [u8], rows: &mut [u8], space: &mut [u8], line: &mut [u8], number: u64) {
     if passed_over(line) {
         return;
     }
-    if replay_asked::verb(line, b"parameter") {
+    if asked::verb(line, b"parameter") {
         parameter(line, number);
         return;
     }
-    if replay_asked::verb(line, b"components") {
+    if asked::verb(line, b"components") {
         components(line, number);
         return;
     }
-    if replay_asked::verb(line, b"portion") {
+    if asked::verb(line, b"portion") {
         portion(rows, line, number);
         return;
     }

@@ -1,7 +1,7 @@
 use Prim.Native.Nat.{_-_, _≤_}
 use borrow.Author.Needs.{needs}
-use Rattle.program_play.proofs.replay_show.row_lines.Statement.{statement}
-use Rattle.program_play.proofs.replay_show.row_lines.Tie as tie
+use Rattle.program_replay.proofs.show.row_lines.Statement.{statement}
+use Rattle.program_replay.proofs.show.row_lines.Tie as tie
 
 abbrev Inv-loop : tie.InvT-loop
 Inv-loop rows count k₀ k = k ≤ count
