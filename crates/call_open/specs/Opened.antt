@@ -6,7 +6,7 @@ use Prim.Native.Nat.{ℕ, _<_}
 use native.Mathlib.Omega.{arith}
 use lib.ListN.{replicate}
 use Rattle.laws.specs.If.{yes, no, true-false}
-use Rattle.paper.specs.Sizes.{placesInAll, localID}
+use Rattle.paper.specs.Sizes.{placesInAll, localID, turns}
 use Rattle.paper.specs.Dialogues.{begun, dialogueOpen}
 use Rattle.paper.specs.Calls.{Out, placeAt, withPlace, mayBegin, lowestFree, refuse, openedAt, opened, step}
 use Rattle.paper.specs.Calls.Call.{Open}
@@ -34,7 +34,7 @@ module _ (t : List ℕ) (s : ℕ) (i : InService t noSpace noSpace s) where
     pub open-there : (p < placesInAll) × (flag (placeAt (view t) p) ≡ 1)
     open-there = (omega (arith, e, i .there m .0), ap (λ (k : ℕ). flag (placeAt (view t) k)) e ∙ i .there m .1)
 
-    pub open-storing : (turn : ℕ) → turn < 16777216 → Storing 1 t p (begun turn dialogueOpen s 0 (replicate 4 0))
+    pub open-storing : (turn : ℕ) → turn < turns → Storing 1 t p (begun turn dialogueOpen s 0 (replicate 4 0))
     open-storing turn l = record {
       ready = i .ready;
       small = open-there .0;

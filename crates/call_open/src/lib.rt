@@ -5,6 +5,7 @@ use paper::DIALOGUE_OPEN;
 use paper::GUARANTEES;
 use paper::LIMITS;
 use paper::MAP;
+use paper::PLACES_SHARED;
 use paper::SERVICES;
 use paper::TABLE_OCTETS;
 ghost use mathlib.Core.Path.{_≡_};
@@ -36,7 +37,7 @@ fn fresh_answer(t: &[u8], g: &[u8], l: &[u8]) -> u32
     if l.len() != SERVICES {
         return 1;
     }
-    if table_shares::shares_fit(g, l, 128) {
+    if table_shares::shares_fit(g, l, PLACES_SHARED) {
         return 0;
     }
     return 13;

@@ -9,7 +9,7 @@ use lib.ListN.{length, getD, take, length-append}
 use lib.Seq.{take-suc}
 use borrow.Author.Tests.{le-leb, lt-leb}
 use Rattle.laws.specs.If.{ifB, yes, no}
-use Rattle.paper.specs.Sizes.{mostWaiting}
+use Rattle.paper.specs.Sizes.{mostWaiting, placesInAll}
 use Rattle.paper.specs.declared.Reject.{Reject}
 use Rattle.paper.specs.declared.Control.{Control}
 use Rattle.paper.specs.Writing.{rejectOctets}
@@ -27,7 +27,7 @@ use Rattle.writing_octets.specs.Lengths.{rejectSize, reject-length}
 -- place p of a table that keeps the rules has a dialogue, and c is its control record
 pub record Holds (t : List ℕ) (p : ℕ) (c : Control) : Type 0 where
   pub ready : Ready t
-  pub small : p < 128
+  pub small : p < placesInAll
   pub told : flag (placeAt (view t) p) ≡ 0
   pub fine : FinePlace (placeAt (view t) p)
   pub control : c ≡ placeAt (view t) p .control

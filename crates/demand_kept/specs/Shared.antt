@@ -7,7 +7,7 @@ use lib.Dec.{eqb}
 use borrow.Author.Tests.{eqb-true, eqb-false, eq-eqb}
 use Rattle.laws.specs.If.{eq, ne, yes}
 use Rattle.laws.specs.Sums.{sum, but, but-same, but-other, sumBy, sumBy-at}
-use Rattle.paper.specs.Sizes.{services}
+use Rattle.paper.specs.Sizes.{services, placesInAll}
 use Rattle.paper.specs.Shares.{gives, sharesKept}
 use Rattle.paper.specs.Dialogues.{Place, emptyPlace, freed}
 use Rattle.paper.specs.Calls.{Table, placeAt, withPlace, isFree, isOf, held, dialogues, mayBegin, lowestFree}
@@ -33,7 +33,7 @@ of-other : (x : Place) (s : ℕ) → (x .control .state ≡ 0 → ⊥) → (x .c
 of-other x s n e = of-used x s n ∙ sym (ne _ _ _ _ e refl)
 
 -- WHAT IS HELD where a place is taken, and where one is freed: one more, one less of its service
-module _ (T : Table) (f : Fine T) (p : ℕ) (h : p < 128) (x : Place) (s : ℕ) where
+module _ (T : Table) (f : Fine T) (p : ℕ) (h : p < placesInAll) (x : Place) (s : ℕ) where
   abbrev now : ℕ → ℕ
   now = held (T .places)
 
@@ -76,11 +76,11 @@ module _ (T : Table) (f : Fine T) where
   unfolding tableShares
   sound = kept-sound (dialogues T) (few (sum (held (T .places)) services) (sumBy flag (T .places)) (all-places T f)) (f .shares)
     where
-      few : (n m : ℕ) → n + m ≡ 128 → n ≤ 128
+      few : (n m : ℕ) → n + m ≡ placesInAll → n ≤ placesInAll
       few n m e = omega arith
 
   -- one place changed, and with it what one service holds
-  moved-by : (p : ℕ) → p < 128 → (x : Place) → FinePlace x → (s b e v : ℕ) → held (withPlace T p x .places) ≡ but (held (T .places)) s v
+  moved-by : (p : ℕ) → p < placesInAll → (x : Place) → FinePlace x → (s b e v : ℕ) → held (withPlace T p x .places) ≡ but (held (T .places)) s v
       → Sound (holding (dialogues T) (but (held (T .places)) s v)) → b + held (T .places) s ≡ e + v → Moved T s b e (withPlace T p x)
   unfolding tableShares
   moved-by p h x g s b e v after kept count =
@@ -90,7 +90,7 @@ module _ (T : Table) (f : Fine T) where
         moves = subst (Moves (dialogues T) (only s b) (only s e)) (sym is) (moves-but (dialogues T) s b e v count);
       }
 
-  one-held : (p : ℕ) → p < 128 → (placeAt T p .control .state ≡ 0 → ⊥) → 0 < held (T .places) (placeAt T p .control .service)
+  one-held : (p : ℕ) → p < placesInAll → (placeAt T p .control .state ≡ 0 → ⊥) → 0 < held (T .places) (placeAt T p .control .service)
   unfolding held
   one-held p h n =
       let x : Place = placeAt T p in
@@ -101,17 +101,17 @@ module _ (T : Table) (f : Fine T) where
   not-moved s = record { fine = f; moves = moves-not (dialogues T) (only s 0) }
 
   -- FREED, by the service that has it
-  pub moved-freed : (p s : ℕ) → p < 128 → (placeAt T p .control .state ≡ 0 → ⊥) → placeAt T p .control .service ≡ s
+  pub moved-freed : (p s : ℕ) → p < placesInAll → (placeAt T p .control .state ≡ 0 → ⊥) → placeAt T p .control .service ≡ s
       → Moved T s 0 1 (withPlace T p (freed (placeAt T p)))
   moved-freed p s h n e =
       let x : Place = placeAt T p in
       let c : ℕ → ℕ = held (T .places) in
       let some : 0 < c s = subst (λ (k : ℕ). 0 < c k) e (one-held p h n) in
       moved-by p h (freed x) (freed-fine x) s 0 1 (c s - 1) (held-freed T f p h (freed x) s n e refl)
-      (release-sound (dialogues T) sound s (subst (λ (k : ℕ). k < 16) e (f .each p h .control .service)) some) (omega arith)
+      (release-sound (dialogues T) sound s (subst (λ (k : ℕ). k < services) e (f .each p h .control .service)) some) (omega arith)
 
   -- A DIALOGUE THAT GOES ON
-  pub moved-on : (p s : ℕ) → p < 128 → (placeAt T p .control .state ≡ 0 → ⊥) → (y : Place) → GoesOn (placeAt T p) y → Moved T s 0 0 (withPlace T p y)
+  pub moved-on : (p s : ℕ) → p < placesInAll → (placeAt T p .control .state ≡ 0 → ⊥) → (y : Place) → GoesOn (placeAt T p) y → Moved T s 0 0 (withPlace T p y)
   moved-on p s h n y g =
       let same : held (withPlace T p y .places) ≡ held (T .places) =
       held-same (T .places) p y (omega (arith, f .places)) (of-same y (placeAt T p) (g .state) n (g .service)) in
@@ -121,18 +121,18 @@ module _ (T : Table) (f : Fine T) where
       }
 
   -- TAKEN: the lowest free place, by a service that may begin
-  module _ (s : ℕ) (s< : s < 16) (may : mayBegin T s ≡ true) where
+  module _ (s : ℕ) (s< : s < services) (may : mayBegin T s ≡ true) where
     given : gives (dialogues T) s ≡ true
     unfolding mayBegin
     given = may
 
-    pub lowest-there : lowestFree T < 128
+    pub lowest-there : lowestFree T < placesInAll
     lowest-there = free-there T f (gives-room (dialogues T) sound s s< given)
 
     pub moved-taken : (x : Place) → FinePlace x → (x .control .state ≡ 0 → ⊥) → x .control .service ≡ s → Moved T s 1 0 (withPlace T (lowestFree T) x)
     moved-taken x g n e =
         let p : ℕ = lowestFree T in
-        let h : p < 128 = lowest-there in
+        let h : p < placesInAll = lowest-there in
         let c : ℕ → ℕ = held (T .places) in
         moved-by p h x g s 1 0 (suc (c s)) (held-taken T f p h x s (free-is (placeAt T p) (lowest-is-free T f h)) n e)
         (take-sound (dialogues T) sound s s< given) (omega arith)

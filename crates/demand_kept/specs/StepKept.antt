@@ -11,7 +11,7 @@ use Rattle.laws.specs.Lists.{pad, zeros}
 use Rattle.paper.specs.declared.Message.{Message}
 use Rattle.paper.specs.declared.Control.{Control}
 use Rattle.paper.specs.declared.Row.{Row}
-use Rattle.paper.specs.Sizes.{placeOf, localID}
+use Rattle.paper.specs.Sizes.{services, placeOf, localID, placesInAll, turns}
 use Rattle.paper.specs.Problems.{noProblem}
 use Rattle.paper.specs.Messages.{messageOf, isSound, beginTag, continueTag, noRun}
 use Rattle.paper.specs.Kinds.{rowUni, rowBegin, rowContinue, rowEnd, rowUserAbort, rowAbort}
@@ -56,17 +56,17 @@ is : {T : Table} (c : Call) {a b : Out} → a ≡ b → Left T c b → Left T c 
 is {T} c z g = subst (Left T c) (sym z) g
 
 module _ (T : Table) (f : Fine T) where
-  turn-small : (p : ℕ) → p < 128 → placeAt T p .control .turn < 16777216
+  turn-small : (p : ℕ) → p < placesInAll → placeAt T p .control .turn < turns
   turn-small p h = f .each p h .control .turn
 
   -- OPEN
-  pub opened-kept : (service : ℕ) → service < 16 → Left T (Open service) (opened T service)
+  pub opened-kept : (service : ℕ) → service < services → Left T (Open service) (opened T service)
   unfolding opened
   opened-kept service s< =
       by-b {r = opened T service} _ _ _ refl
       (λ may z.
       let p : ℕ = lowestFree T in
-      let h : p < 128 = lowest-there T f service s< may in
+      let h : p < placesInAll = lowest-there T f service s< may in
       let c : FineControl (begun (placeAt T p .control .turn) 1 service 0 (replicate 4 0)) =
       begun-fine (placeAt T p .control .turn) 1 service 0 (replicate 4 0) (turn-small p h) (omega arith) s< refl
       (record { some = λ z. absurd (true-false (sym z ∙ peers .0)); none = λ z. refl; most = omega arith; rest = zeros-of 4 }) in
@@ -123,7 +123,7 @@ module _ (s : List ℕ) (m : Message) (in-s : MessageIn (length s) m) where
     }
 
     -- a Begin's dialogue
-    pub begun-control-fine : (turn service : ℕ) → turn < 16777216 → service < 16 → FineControl (begun turn 3 service (m .origin .length) (pad 4 origin))
+    pub begun-control-fine : (turn service : ℕ) → turn < turns → service < services → FineControl (begun turn 3 service (m .origin .length) (pad 4 origin))
     begun-control-fine turn service h g = begun-fine turn 3 service (m .origin .length) (pad 4 origin) h (omega arith) g (pad-length 4 origin) (origin-fine 3 (peers .2))
 
     -- a Continue's: in Sent it stores the peer's ID
@@ -135,7 +135,7 @@ module _ (s : List ℕ) (m : Message) (in-s : MessageIn (length s) m) where
         (with-peer-fine c k (m .origin .length) (pad 4 origin) (pad-length 4 origin) (origin-fine 4 (peers .3)), λ e. omega arith, refl) (k, n, refl)
 
 -- A RECEIVED MESSAGE, as it is read
-module _ (T : Table) (f : Fine T) (service : ℕ) (s< : service < 16) (s : List ℕ) (octets : Octets s) (m : Message) (in-s : MessageIn (length s) m) where
+module _ (T : Table) (f : Fine T) (service : ℕ) (s< : service < services) (s : List ℕ) (octets : Octets s) (m : Message) (in-s : MessageIn (length s) m) where
   -- what it shows counts
   abbrev Shown : Out → Type 0
   Shown o = Moved T service (begunRows (o .rows)) (endedRows (o .rows)) (o .table)
@@ -193,7 +193,7 @@ module _ (T : Table) (f : Fine T) (service : ℕ) (s< : service < 16) (s : List 
       by-b {r = beginReceived T service s m} _ _ _ refl
       (λ may z.
       let p : ℕ = lowestFree T in
-      let h : p < 128 = lowest-there T f service s< may in
+      let h : p < placesInAll = lowest-there T f service s< may in
       let c : Control = begunControl T service p s m in
       let g : FineControl c = begun-control-fine s m in-s (in-s .begins sound tag) (placeAt T p .control .turn) service (turn-small T f p h) s< in
       let w = all-acted-stays 8 (omega arith) (itemsOf s m) items-readable c g in
@@ -266,14 +266,14 @@ WellFormed (OnDialogue service dialogue r) = Formed r
 WellFormed (Receive service s) = Octets s
 
 module _ (T : Table) (f : Fine T) where
-  received-kept : (service : ℕ) → service < 16 → (s : List ℕ) → Octets s → Left T (Receive service s) (receivedIf T service s)
+  received-kept : (service : ℕ) → service < services → (s : List ℕ) → Octets s → Left T (Receive service s) (receivedIf T service s)
   unfolding receivedIf
   received-kept service s< s octets =
       by-eq {r = receivedIf T service s} _ _ _ _ refl (λ a z. is (Receive service s) z (not-moved T f service))
       (λ a z. by-lt _ _ _ _ z (λ b z. is (Receive service s) z (not-moved T f service))
       (λ b z. is (Receive service s) z (message-kept T f service s< s octets (messageOf s) (message-in s (messageOf s) refl))))
 
-  of-service : (c : Call) (o : Out) → (serviceOf c < 16 → Left T c o) → Left T c (refuse 3 T) → Left T c (ofService (serviceOf c) T o)
+  of-service : (c : Call) (o : Out) → (serviceOf c < services → Left T c o) → Left T c (refuse 3 T) → Left T c (ofService (serviceOf c) T o)
   of-service c o g h = by-lt {r = ofService (serviceOf c) T o} _ _ _ _ refl (λ a z. is c z (g a)) (λ a z. is c z h)
 
   -- THE STEP

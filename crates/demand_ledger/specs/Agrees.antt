@@ -11,7 +11,7 @@ use borrow.Author.Tests.{eqb-true, eqb-false, eq-eqb, ne-eqb}
 use Rattle.laws.specs.If.{ifEq, lt, eq, ne, no}
 use Rattle.paper.specs.declared.Reject.{Reject}
 use Rattle.paper.specs.declared.Control.{Control}
-use Rattle.paper.specs.Sizes.{placeOf, turnOf, localID, nextTurn}
+use Rattle.paper.specs.Sizes.{placeOf, turnOf, localID, nextTurn, placesInAll}
 use Rattle.paper.specs.Writing.{Written, joined}
 use Rattle.paper.specs.Dialogues.{Place, freed, peerOf}
 use Rattle.paper.specs.Calls.{Table, placeAt, withPlace, isFree, isOf, held, isDialogue, owns}
@@ -43,13 +43,13 @@ pub record Is (e : Entry) (x : Place) : Type 0 where
 
 -- under its ID: the place holds the dialogue of that turn, or no such dialogue where the ledger has none
 pub record Holds (x : Place) (d : ℕ) (e : Entry) : Type 0 where
-  pub small : placeOf d < 128
+  pub small : placeOf d < placesInAll
   pub used : x .control .state ≡ 0 → ⊥
   pub turn : x .control .turn ≡ turnOf d
   pub is : Is e x
 
 abbrev pub At : Place → ℕ → Option Entry → Type 0
-At x d none = placeOf d < 128 → (x .control .state ≡ 0 → ⊥) → x .control .turn ≡ turnOf d → ⊥
+At x d none = placeOf d < placesInAll → (x .control .state ≡ 0 → ⊥) → x .control .turn ≡ turnOf d → ⊥
 At x d (some e) = Holds x d e
 
 -- THE RELATION
@@ -59,7 +59,7 @@ pub record Agrees (T : Table) (L : Ledger) : Type 0 where
   pub each : (d : ℕ) → At (placeAt T (placeOf d)) d (find (L .dialogues) d)
   pub differ : Distinct (L .dialogues)
   pub counts : (s : ℕ) → entriesOf (L .dialogues) s ≡ held (T .places) s
-  pub turns : (p : ℕ) → p < 128 → placeAt T p .control .turn ≡ endedIn p (L .ended) % 16777216
+  pub turns : (p : ℕ) → p < placesInAll → placeAt T p .control .turn ≡ endedIn p (L .ended) % 16777216
 
 -- what a place holds under an ID is that service's dialogue
 pub holds-owns : (T : Table) (d : ℕ) (e : Entry) → Holds (placeAt T (placeOf d)) d e → owns T (e .service) d ≡ true
@@ -120,7 +120,7 @@ module _ (T : Table) (f : Fine T) (L : Ledger) (g : Agrees T L) where
       go (some e) q a = absurd (a .used z)
 
   -- ONE PLACE CHANGED: under every ID of another place all is as it was
-  module _ (p : ℕ) (h : p < 128) (y : Place) where
+  module _ (p : ℕ) (h : p < placesInAll) (y : Place) where
     abbrev U : Table
     U = withPlace T p y
 
@@ -136,7 +136,7 @@ module _ (T : Table) (f : Fine T) (L : Ledger) (g : Agrees T L) where
     counted s = held-set (T .places) p y s (omega (arith, f .places))
 
     turned : (n : ℕ → ℕ) → ((q : ℕ) → (q ≡ p → ⊥) → n q ≡ endedIn q (L .ended)) → y .control .turn ≡ n p % 16777216
-        → (q : ℕ) → q < 128 → placeAt U q .control .turn ≡ n q % 16777216
+        → (q : ℕ) → q < placesInAll → placeAt U q .control .turn ≡ n q % 16777216
     turned n same own q b =
         by-same q p (λ e. ap (λ (i : ℕ). placeAt U i .control .turn) e ∙ ap (λ (x : Place). x .control .turn) (place-same T f p h y) ∙ own ∙ ap (λ (i : ℕ). n i % 16777216) (sym e))
         (λ e. ap (λ (x : Place). x .control .turn) (place-other T f p h y q e) ∙ g .turns q b ∙ ap (λ (i : ℕ). i % 16777216) (sym (same q e)))
@@ -158,7 +158,7 @@ module _ (T : Table) (f : Fine T) (L : Ledger) (g : Agrees T L) where
         by-same k d
         (λ q. here p (holds .small) y k (find m k) (ap placeOf q)
         (subst (At y k) (sym (ap (find m) q ∙ found))
-        (record { small = subst (λ (i : ℕ). placeOf i < 128) (sym q) (holds .small); used = used; turn = turn ∙ ap turnOf (sym q); is = is })))
+        (record { small = subst (λ (i : ℕ). placeOf i < placesInAll) (sym q) (holds .small); used = used; turn = turn ∙ ap turnOf (sym q); is = is })))
         (λ n. by-same (placeOf k) p
         (λ q. here p (holds .small) y k (find m k) q
         (subst (At y k) (sym (others k n ∙ other-turn k d n q (holds .turn))) (λ s u t. n (id-is k d q (sym t ∙ turn)))))
@@ -214,7 +214,7 @@ module _ (T : Table) (f : Fine T) (L : Ledger) (g : Agrees T L) where
       p : ℕ
       p = placeOf d
 
-      h : p < 128
+      h : p < placesInAll
       h = holds .small
 
       y : Place
@@ -224,7 +224,7 @@ module _ (T : Table) (f : Fine T) (L : Ledger) (g : Agrees T L) where
       next t n m a b = omega arith
 
   -- A DIALOGUE BEGINS in a free place
-  pub agrees-begun : (p : ℕ) → p < 128 → placeAt T p .control .state ≡ 0 → placeAt T p .control .turn < 16777216 → (e : Entry) (y : Place)
+  pub agrees-begun : (p : ℕ) → p < placesInAll → placeAt T p .control .state ≡ 0 → placeAt T p .control .turn < 16777216 → (e : Entry) (y : Place)
       → e .id ≡ localID p (placeAt T p .control .turn) → y .control .turn ≡ placeAt T p .control .turn → (y .control .state ≡ 0 → ⊥) → Is e y
       → Agrees (withPlace T p y) (begins L e)
   agrees-begun p h free small e y id turn used is = record {
@@ -234,7 +234,7 @@ module _ (T : Table) (f : Fine T) (L : Ledger) (g : Agrees T L) where
         by-same k (e .id)
         (λ q. here p h y k (find m k) (ap placeOf q ∙ at-place)
         (subst (At y k) (sym (ap (find m) q ∙ find-added e l absent))
-        (record { small = subst (λ (i : ℕ). i < 128) (sym (ap placeOf q ∙ at-place)) h; used = used; turn = turn ∙ sym (ap turnOf q ∙ at-turn); is = is })))
+        (record { small = subst (λ (i : ℕ). i < placesInAll) (sym (ap placeOf q ∙ at-place)) h; used = used; turn = turn ∙ sym (ap turnOf q ∙ at-turn); is = is })))
         (λ n. by-same (placeOf k) p
         (λ q. here p h y k (find m k) q
         (subst (At y k) (sym (find-added-other e l k n ∙ free-none k (ap (λ (i : ℕ). placeAt T i .control .state) q ∙ free)))

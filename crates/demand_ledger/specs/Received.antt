@@ -63,7 +63,7 @@ module _ (L : Ledger) (service : ℕ) (s : List ℕ) (r : Row) (rows : List Row)
       sym (ne _ _ _ _ (λ z. omega arith) (ne _ _ _ _ (λ z. omega arith)
       (ne _ _ _ _ (λ z. let e : _≡_ {A = ℕ} 0 (isEnded r) = ne _ _ _ _ (λ q. omega arith) (ne _ _ _ _ (λ q. omega arith) (ne _ _ _ _ (λ q. omega arith) refl)) in omega (arith, e, z)) refl)))
 
-module _ (T : Table) (f : Fine T) (L : Ledger) (g : Agrees T L) (service : ℕ) (s< : service < 16) (s : List ℕ) (octets : Octets s) where
+module _ (T : Table) (f : Fine T) (L : Ledger) (g : Agrees T L) (service : ℕ) (s< : service < services) (s : List ℕ) (octets : Octets s) where
   abbrev m : Message
   m = messageOf s
 
@@ -208,7 +208,7 @@ module _ (T : Table) (f : Fine T) (L : Ledger) (g : Agrees T L) (service : ℕ) 
         by-b {r = beginReceived T service s m} _ _ _ refl
         (λ may z.
         let p : ℕ = lowestFree T in
-        let h : p < 128 = lowest-there T f service s< may in
+        let h : p < placesInAll = lowest-there T f service s< may in
         let c : Control = begunControl T service p s m in
         let id : ℕ = localID p (placeAt T p .control .turn) in
         let rows : List Row = componentRows id 8 c (itemsOf s m) in

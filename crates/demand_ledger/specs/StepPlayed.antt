@@ -6,7 +6,7 @@ use Prim.Native.Nat.{ℕ, zero, suc, _≤_, _<_}
 use native.Mathlib.Omega.{arith}
 use lib.ListN.{length, replicate, getD-replicate}
 use Rattle.laws.specs.If.{eq, by-lt, by-eq, by-b}
-use Rattle.paper.specs.Sizes.{placeOf, localID}
+use Rattle.paper.specs.Sizes.{services, placeOf, localID, placesInAll}
 use Rattle.paper.specs.Writing.{joined}
 use Rattle.paper.specs.Dialogues.{Place, Request, emptyPlace, begun, unlessRefused, refusal, does, request}
 use Rattle.paper.specs.Calls.{Table, Out, placeAt, lowestFree, stored, requested, opened, receivedIf, Call, step, freshTable}
@@ -35,10 +35,10 @@ unfolding freshTable find entriesOf endedIn
 fresh-agrees g l = record {
   guarantees = refl;
   limits = refl;
-  each = λ d h u t. u (ap (λ (x : Place). x .control .state) (getD-replicate 128 (placeOf d) (emptyPlace 0) (emptyPlace 0) h));
+  each = λ d h u t. u (ap (λ (x : Place). x .control .state) (getD-replicate placesInAll (placeOf d) (emptyPlace 0) (emptyPlace 0) h));
   differ = tt;
-  counts = λ s. sym (none-held 128 s);
-  turns = λ p h. ap (λ (x : Place). x .control .turn) (getD-replicate 128 p (emptyPlace 0) (emptyPlace 0) h);
+  counts = λ s. sym (none-held placesInAll s);
+  turns = λ p h. ap (λ (x : Place). x .control .turn) (getD-replicate placesInAll p (emptyPlace 0) (emptyPlace 0) h);
 }
 
 module _ (T : Table) (f : Fine T) (L : Ledger) (g : Agrees T L) where
@@ -57,13 +57,13 @@ module _ (T : Table) (f : Fine T) (L : Ledger) (g : Agrees T L) where
   refused : (c : Call) (n : ℕ) {o : Out} → o .answer ≡ suc n → IfDone c o
   refused c n e a = absurd (omega (arith, e, a))
 
-  opened-goes : (service : ℕ) → service < 16 → IfDone (Open service) (opened T service)
+  opened-goes : (service : ℕ) → service < services → IfDone (Open service) (opened T service)
   unfolding opened joined
   opened-goes service s< =
       by-b {r = opened T service} _ _ _ refl
       (λ may z. is (Open service) z (λ _.
       let p : ℕ = lowestFree T in
-      let h : p < 128 = lowest-there T f service s< may in
+      let h : p < placesInAll = lowest-there T f service s< may in
       let t : ℕ = placeAt T p .control .turn in
       record {
         agrees = agrees-begun T f L g p h (free-is (placeAt T p) (lowest-is-free T f h)) (f .each p h .control .turn)
@@ -98,7 +98,7 @@ module _ (T : Table) (f : Fine T) (L : Ledger) (g : Agrees T L) where
             fits = k e .fits;
           }
 
-  received-goes : (service : ℕ) → service < 16 → (s : List ℕ) → WellFormed (Receive service s) → IfDone (Receive service s) (receivedIf T service s)
+  received-goes : (service : ℕ) → service < services → (s : List ℕ) → WellFormed (Receive service s) → IfDone (Receive service s) (receivedIf T service s)
   unfolding receivedIf
   received-goes service s< s w =
       by-eq {r = receivedIf T service s} _ _ _ _ refl (λ a z. is c z (refused c 3 refl))

@@ -10,7 +10,7 @@ use Rattle.laws.specs.If.{ifLt, ifEq, ifB, by-lt, by-eq, by-b}
 use Rattle.paper.specs.declared.Message.{Message}
 use Rattle.paper.specs.declared.Control.{Control}
 use Rattle.paper.specs.declared.Row.{Row}
-use Rattle.paper.specs.Sizes.{services, placeOf, localID, mostRejects}
+use Rattle.paper.specs.Sizes.{services, placesInAll, longestMessage, placeOf, localID, mostRejects}
 use Rattle.paper.specs.Problems.{noProblem}
 use Rattle.paper.specs.Components.{Item, components}
 use Rattle.paper.specs.Messages.{messageOf, noRun, isSound, isDropped, uniTag, beginTag, endTag, continueTag}
@@ -73,7 +73,7 @@ module _ (me : ℕ) (small : me < 4294967296) (x : Place) where
       go (suc n) f = none-fit
 
 -- A RECEIVED MESSAGE
-module _ (T : Table) (f : Fine T) (service : ℕ) (s< : service < 16) (s : List ℕ) (octets : Octets s) (short : length s ≤ 512) where
+module _ (T : Table) (f : Fine T) (service : ℕ) (s< : service < services) (s : List ℕ) (octets : Octets s) (short : length s ≤ longestMessage) where
   abbrev m : Message
   m = messageOf s
 
@@ -133,7 +133,7 @@ module _ (T : Table) (f : Fine T) (service : ℕ) (s< : service < 16) (s : List 
       when-b Fits (mayBegin T service) _ _
       (λ may.
       let p : ℕ = lowestFree T in
-      let h : p < 128 = lowest-there T f service s< may in
+      let h : p < placesInAll = lowest-there T f service s< may in
       shown-fit rowBegin (localID p (placeAt T p .control .turn)) mostRejects _ (omega arith) (omega (arith, f .each p h .control .turn)))
       (faulted-fit 4 (omega arith))
 

@@ -131,6 +131,9 @@ pub struct Acted {
 // specs/Sizes
 pub const PLACES_IN_ALL: usize = 128;
 
+// as the size of a resource, a number of 32 bits
+pub const PLACES_SHARED: u32 = PLACES_IN_ALL as u32;
+
 pub const SERVICES: usize = 16;
 
 pub const MOST_INVOCATIONS: usize = 8;

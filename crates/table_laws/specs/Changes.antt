@@ -38,7 +38,7 @@ pub held-same : (ps : List Place) (p : ℕ) (x : Place) → p < length ps → ((
 held-same ps p x h e = fun-ext (λ s. omega (arith, held-set ps p x s h, e s))
 
 -- ---- the places
-module _ (T : Table) (f : Fine T) (p : ℕ) (h : p < 128) (x : Place) where
+module _ (T : Table) (f : Fine T) (p : ℕ) (h : p < placesInAll) (x : Place) where
   pub place-same : placeAt (withPlace T p x) p ≡ x
   place-same = getD-set-same (T .places) p x (emptyPlace 0) (omega (arith, f .places))
 
@@ -55,7 +55,7 @@ module _ (T : Table) (f : Fine T) (p : ℕ) (h : p < 128) (x : Place) where
     shares = s;
   }
     where
-      go : (q : ℕ) → q < 128 → (b : Bool) → eqb q p ≡ b → FinePlace (placeAt (withPlace T p x) q)
+      go : (q : ℕ) → q < placesInAll → (b : Bool) → eqb q p ≡ b → FinePlace (placeAt (withPlace T p x) q)
       go q l true e = subst (λ (k : ℕ). FinePlace (placeAt (withPlace T p x) k)) (sym (eqb-true q p e)) (subst FinePlace (sym place-same) g)
       go q l false e = subst FinePlace (sym (place-other q (eqb-false q p e))) (f .each q l)
 

@@ -9,6 +9,7 @@ use borrow.Author.Tests.{eqb-true, eqb-false, ltb-true, ltb-false}
 use lib.ListN.{length, getD, set, length-set, length-map}
 use lib.Seq.{getD-set-same, getD-set-other}
 use Rattle.laws.specs.If.{ifEq, was-eq, ifB, was-yes}
+use Rattle.paper.specs.Sizes.{services, turns}
 use Rattle.paper.specs.declared.Invocation.{Invocation}
 use Rattle.paper.specs.declared.Reject.{Reject}
 use Rattle.paper.specs.declared.Control.{Control}
@@ -32,7 +33,7 @@ pub continue-peer : (state : ℕ) → _≡_ {A = ℕ} 0 (ifB (hasPeer state) 0 6
 continue-peer state e = peers .3 ∙ sym (was-yes _ _ _ e (λ z. omega arith) .0)
 
 -- A NEW DIALOGUE
-pub begun-fine : (turn state service peerlen : ℕ) (peer : List ℕ) → turn < 16777216 → state < 5 → service < 16 → length peer ≡ 4
+pub begun-fine : (turn state service peerlen : ℕ) (peer : List ℕ) → turn < turns → state < 5 → service < services → length peer ≡ 4
     → FinePeer state peerlen peer → FineControl (begun turn state service peerlen peer)
 begun-fine turn state service peerlen peer a b c d e =
     let f = empty-fine 0 (omega arith) .control in

@@ -9,7 +9,7 @@ use borrow.Author.Tests.{eqb-true, eqb-false, leb-true, ltb-true, ltb-false, eq-
 use lib.ListN.{length, getD, drop}
 use Rattle.laws.specs.If.{ifLt, ifEq, ifB, lt, ge, eq, ne, yes, no, was-lt, was-ge, was-eq, was-yes, by-eq, true-false}
 use Rattle.laws.specs.Lists.{zeros, every}
-use Rattle.paper.specs.Sizes.{mostWaiting}
+use Rattle.paper.specs.Sizes.{mostWaiting, turns}
 use Rattle.paper.specs.declared.Invocation.{Invocation}
 use Rattle.paper.specs.declared.Reject.{Reject}
 use Rattle.paper.specs.declared.Control.{Control}
@@ -284,7 +284,7 @@ peer-kept c f = go (hasPeer (c .state)) refl
         sym (no _ _ _ q (eq _ _ _ _ z (sym (ap (λ (n : ℕ). zeros (drop n (c .peer))) (sym z) ∙ f .rest))))
 
 -- ---- THE DIALOGUE, test by test
-pub dialogue-is : (x : Place) → x .control .turn < 16777216 → length (x .control .peer) ≡ 4 → length (x .control .invocations) ≡ 8 → length (x .control .rejects) ≡ 8
+pub dialogue-is : (x : Place) → x .control .turn < turns → length (x .control .peer) ≡ 4 → length (x .control .invocations) ≡ 8 → length (x .control .rejects) ≡ 8
     → (x .control .state ≡ 0 → ⊥) → dialogueKept x ≡ true → FinePlace x
 unfolding dialogueKept every
 dialogue-is x t p v r n e =

@@ -5,7 +5,7 @@ use Prim.Native.Nat.{ℕ, _<_}
 use lib.Dec.{eqb}
 use borrow.Author.Tests.{eqb-true, eqb-false}
 use Rattle.laws.specs.If.{ifEq, was-lt, was-eq, yes, no, true-false}
-use Rattle.paper.specs.Sizes.{placeOf, turnOf}
+use Rattle.paper.specs.Sizes.{placeOf, turnOf, placesInAll}
 use Rattle.paper.specs.Dialogues.{Place}
 use Rattle.paper.specs.Calls.{Table, placeAt, isFree, isDialogue, owns}
 use Rattle.paper.specs.Layout.{flag}
@@ -13,7 +13,7 @@ use Rattle.table_laws.specs.Slots.{flag-used}
 
 -- what a dialogue of that service and ID is
 pub record Owned (T : Table) (s dialogue : ℕ) : Type 0 where
-  pub small : placeOf dialogue < 128
+  pub small : placeOf dialogue < placesInAll
   pub state : placeAt T (placeOf dialogue) .control .state ≡ 0 → ⊥
   pub used : flag (placeAt T (placeOf dialogue)) ≡ 0
   pub service : placeAt T (placeOf dialogue) .control .service ≡ s
@@ -37,6 +37,6 @@ dialogue-is x service turn e = go (eqb (x .control .state) 0) refl
 pub owned-is : (T : Table) (service dialogue : ℕ) → owns T service dialogue ≡ true → Owned T service dialogue
 unfolding owns
 owned-is T service dialogue e =
-    let a = was-lt (placeOf dialogue) 128 (isDialogue (placeAt T (placeOf dialogue)) service (turnOf dialogue)) false (sym e) true-false in
+    let a = was-lt (placeOf dialogue) placesInAll (isDialogue (placeAt T (placeOf dialogue)) service (turnOf dialogue)) false (sym e) true-false in
     let d = dialogue-is (placeAt T (placeOf dialogue)) service (turnOf dialogue) (sym (a .1)) in
     record { small = a .0; state = d .0; used = flag-used (placeAt T (placeOf dialogue)) (d .0); service = d .1; turn = d .2 }

@@ -12,7 +12,7 @@ use Rattle.laws.specs.If.{ifLt, ifEq, ifB, ge, eq, ne, yes, no, was-ge, was-eq,
 use Rattle.laws.specs.Lists.{zeros, every, span-drop}
 use Rattle.paper.specs.declared.Invocation.{Invocation}
 use Rattle.paper.specs.Invocations.{noInvocation}
-use Rattle.paper.specs.Sizes.{mostWaiting}
+use Rattle.paper.specs.Sizes.{mostWaiting, turns}
 use Rattle.paper.specs.Components.{waitingItems}
 use Rattle.paper.specs.Dialogues.{Place, emptyPlace, noReject, hasPeer, dialogueFree}
 use Rattle.paper.specs.Calls.{isFree}
@@ -55,7 +55,7 @@ none-wait n = record {
   rest = λ i h k. getD-replicate n i noReject noReject (omega (arith, length-replicate n noReject));
 }
 
-pub empty-fine : (turn : ℕ) → turn < 16777216 → FinePlace (emptyPlace turn)
+pub empty-fine : (turn : ℕ) → turn < turns → FinePlace (emptyPlace turn)
 unfolding hasPeer waitingKept waitingItems every zeros ifEq
 empty-fine turn h = record {
   control = record {

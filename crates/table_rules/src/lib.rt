@@ -15,6 +15,7 @@ use paper::NO_FAULT;
 use paper::PLACE_OCTETS;
 use paper::PLACES;
 use paper::PLACES_IN_ALL;
+use paper::PLACES_SHARED;
 use paper::REJECTING;
 use paper::REJECTS;
 use paper::SERVICE;
@@ -57,9 +58,6 @@ const AFTER_WORDS: usize = SERVICE + 3 * WORD;
 
 // The kind of a place that breaks a rule; the others are the services, and SERVICES for a free place.
 const BROKEN: usize = SERVICES + 1;
-
-// How many places the services share.
-const SHARED: u32 = PLACES_IN_ALL as u32;
 
 // Whether a place's octets are all 0 from k on.
 fn zeros_from(rec: &[u8], k: usize) -> bool
@@ -511,14 +509,14 @@ pub fn check(t: &[u8]) -> Checked
         let counts = s.counts;
         let free = table_map::free_count(t);
         // "the map agrees with the places": no used place's bit is set, so where as many are set as places are free, they are the free ones'
-        if free + total(counts) != SHARED {
+        if free + total(counts) != PLACES_SHARED {
             return refused(2);
         }
         let shares = table_shares::shares_kept(
             &t[GUARANTEES..LIMITS],
             &t[LIMITS..PLACES],
             counts,
-            SHARED,
+            PLACES_SHARED,
             free,
         );
         let fair = shares.ok;

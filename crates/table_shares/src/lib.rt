@@ -1,5 +1,6 @@
 // The share rule (demand 3), of any resource that services share: its laws stand in specs/, the decisions on numbers are here. How much
 // there is of a resource is a number handed in, and what a service may and does have are numbers of 32 bits, whatever the octets they stand in.
+use paper::SERVICES;
 ghost use mathlib.Core.Path.{_≡_};
 ghost use mathlib.Core.Bool.{false};
 ghost use Prim.Native.Nat.{ℕ, _+_, _-_, _<_};
@@ -85,7 +86,13 @@ pub struct Kept {
 // "shares as for 13; nobody above the limit; free places at least the sum of unused guarantees", and that sum: of a resource of that size of
 // which so much is free. What is over a limit, and of a limit over all there is, is added up too and judged at the end: a walk with no other
 // exit is one in which the compiler takes several services at a time.
-pub fn shares_kept(guarantees: &[u8], limits: &[u8], counts: [u8; 16], size: u32, free: u32) -> Kept
+pub fn shares_kept(
+    guarantees: &[u8],
+    limits: &[u8],
+    counts: [u8; SERVICES],
+    size: u32,
+    free: u32,
+) -> Kept
     requires { ⌜ (length (now guarantees) ≡ services) × (length (now limits) ≡ services) × Remains (shared size services (now guarantees) (now limits) (λ k. getD counts k 0)) free ⌝ }
     ensures { λ r. ⌜ Parted (shared size services (now (guarantees .entry)) (now (limits .entry)) (λ k. getD counts k 0)) (r .ok) (r .unused) ⌝ }
 {
@@ -93,7 +100,7 @@ pub fn shares_kept(guarantees: &[u8], limits: &[u8], counts: [u8; 16], size: u32
     let mut unused: u32 = 0;
     let mut over: u32 = 0;
     let mut k: usize = 0;
-    while k < 16 {
+    while k < SERVICES {
         let share = share_at(guarantees, limits, k);
         let guarantee = share.guarantee;
         let limit = share.limit;
@@ -114,7 +121,7 @@ pub fn shares_fit(guarantees: &[u8], limits: &[u8], size: u32) -> bool
     requires { ⌜ (length (now guarantees) ≡ services) × (length (now limits) ≡ services) ⌝ }
     ensures { λ r. ⌜ r ≡ sharesFit (shared size services (now (guarantees .entry)) (now (limits .entry)) (λ k. 0)) ⌝ }
 {
-    let none: [u8; 16] = [0; 16];
+    let none: [u8; SERVICES] = [0; SERVICES];
     let kept = shares_kept(guarantees, limits, none, size, size);
     kept.ok
 }
