@@ -115,6 +115,7 @@ fn invocation_kept(id: u8, o: u8) -> bool
     }
     o / 64 <= 1
 }
+
 // Whether an invocation is open with that ID.
 fn is_open(v: Invocation, wanted: u8) -> bool
     ensures { λ r. ⌜ r ≡ isOpen wanted v ⌝ }
@@ -205,6 +206,7 @@ fn reject_kept(id: u8, o: u8) -> bool
     }
     kind == 0
 }
+
 // The i-th reject, of which n wait.
 fn reject_at_kept(rec: &[u8], n: usize, i: usize) -> bool
     requires { ⌜ (length (now rec) ≡ placeSize) × (i < mostRejects) ⌝ }
