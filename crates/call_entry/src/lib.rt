@@ -1,4 +1,6 @@
 // What every call begins with and ends in: the numbers 1, 2, 3 and 5 in this order, and the reply.
+#![tactic(auto)]
+
 ghost use Rattle.std.specs.Prelude.{◌≡◌};
 ghost use Rattle.paper.specs.Sizes.{octet_of};
 ghost use Rattle.call_entry.specs.Replies.{reply};
@@ -8,7 +10,7 @@ use paper::{GUARANTEES, LEAST_ROWS, LEAST_SPACE, LIMITS, PLACES, SERVICES, TURNS
 
 // What the host is told (docs, "The interface to the C host"): at any answer but 0 the other three are 0.
 #[repr(C)]
-#[derive(Drop)]
+#[derive(Clone, Copy)]
 pub struct Reply {
     pub answer: u32,
     pub rows: u32,
@@ -51,7 +53,7 @@ pub fn octet_of(id: i8) -> u8
 }
 
 // Octets of row space and of message space: those lent to a call, or the least that it takes, 0 where it takes none.
-#[derive(Drop)]
+#[derive(Clone, Copy)]
 pub struct Spaces {
     pub rows: usize,
     pub space: usize,
@@ -74,7 +76,7 @@ pub const BOTH_SPACES: Spaces = Spaces {
     space: LEAST_SPACE,
 };
 
-#[derive(Drop)]
+#[derive(Clone, Copy)]
 pub struct Entered {
     pub answer: u32,
     pub may: bool,
@@ -123,7 +125,7 @@ pub fn enter(t: &[u8], lent: Spaces, least: Spaces, service: u32) -> Entered
     };
 }
 
-#[derive(Drop)]
+#[derive(Clone, Copy)]
 pub struct Met {
     pub answer: u32,
     pub place: usize,

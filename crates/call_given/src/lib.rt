@@ -1,4 +1,6 @@
 // Octets given by a user (01, answers 11 and 12): one well-formed element of its kind, and not over 240 octets. Slices of any length.
+#![tactic(auto)]
+
 ghost use Rattle.std.specs.Prelude.{◌≡◌, ◌+◌, ◌≤◌, length};
 ghost use Rattle.paper.specs.Sizes.{most_waiting};
 ghost use Rattle.paper.specs.Elements.{is_element};

@@ -1,4 +1,6 @@
 // The table's size, a fresh table, and the request that takes a place (01, "Dialogue states": "Open takes a place").
+#![tactic(auto)]
+
 ghost use Rattle.std.specs.Prelude.{◌≡◌, [], length};
 ghost use Rattle.paper.specs.Sizes.{services};
 ghost use Rattle.paper.specs.Dialogues.{begun};

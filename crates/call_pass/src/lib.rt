@@ -1,5 +1,7 @@
 // Components passed to a dialogue (01, "Dialogue states", "Invocation states"): refused by a number, or written after those that wait,
 // straight into the table.
+#![tactic(auto)]
+
 ghost use Rattle.std.specs.Prelude.{◌≡◌, [], ◌<◌, ◌≤◌, length};
 ghost use Rattle.laws.specs.Runs.{Wrote};
 ghost use Rattle.paper.specs.Sizes.{most_waiting, most_invocations};
@@ -19,7 +21,7 @@ use paper::{
 };
 
 // WHAT IS PASSED, by its numbers. The operation or error, and the parameter, stand beside it as octets; a reject has neither.
-#[derive(Drop)]
+#[derive(Clone, Copy)]
 pub enum Passing {
     // ID, linked ID (256 none), class
     AnInvoke(u8, u32, u32),
@@ -124,7 +126,7 @@ fn refusal(state: u8, l: [Invocation; 8], n: usize, what: Passing, code: &[u8], 
 }
 
 // ---- DONE: one slot of our invocations, and what it holds afterwards
-#[derive(Drop)]
+#[derive(Clone, Copy)]
 struct Slot {
     at: usize,
     holds: Invocation,

@@ -1,4 +1,6 @@
 // The question what a dialogue portion holds (02 a): its octets stay the message's, the answer is one row, and no table is taken.
+#![tactic(auto)]
+
 ghost use Rattle.std.specs.Prelude.{[]};
 ghost use Rattle.paper.specs.Outcome.{Gives, portion_outcome};
 

@@ -1,4 +1,6 @@
 // A received message (01, "A received message"), from the sizes lent to the reply.
+#![tactic(auto)]
+
 ghost use Rattle.std.specs.Prelude.{◌≡◌};
 ghost use Rattle.paper.specs.Calls.Call.{Receive};
 ghost use Rattle.paper.specs.Outcome.{Gives, outcome};

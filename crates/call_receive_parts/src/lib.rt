@@ -1,4 +1,6 @@
 // A received message over the lent table (01, "A received message"): what it makes of the table, its rows, and the Abort that it is answered by.
+#![tactic(auto)]
+
 ghost use Rattle.std.specs.Prelude.{◌≡◌, [], ◌+◌, ◌*◌, ◌<◌, ◌≤◌, length, get_or, take, drop};
 ghost use Rattle.laws.specs.If.{if_eq};
 ghost use Rattle.laws.specs.Lists.{pad};
@@ -24,7 +26,7 @@ use paper::{
 };
 
 // How many rows, and how long the message is.
-#[derive(Drop)]
+#[derive(Clone, Copy)]
 pub struct Received {
     pub rows: u32,
     pub length: u32,

@@ -1,4 +1,6 @@
 // The components of a received message, one after another: each acts on the dialogue's control record and has its row.
+#![tactic(auto)]
+
 ghost use Rattle.std.specs.Prelude.{◌≡◌, ◌+◌, ◌-◌, ◌<◌, ◌≤◌, length};
 ghost use Rattle.paper.specs.Sizes.{longest_message, most_rejects, least_rows};
 ghost use Rattle.paper.specs.Components.{components, next_start};
@@ -9,7 +11,7 @@ use dialogue_acts::Told;
 use paper::{Component, Control, Invocation, NO_FAULT, Row};
 
 // One component: what is told of it, its ID and its row, and where the next one starts.
-#[derive(Drop)]
+#[derive(Clone, Copy)]
 pub struct Stepped {
     pub told: Told,
     pub id: u32,
@@ -18,7 +20,7 @@ pub struct Stepped {
 }
 
 // All of them: the control record after them, and how many rows.
-#[derive(Drop)]
+#[derive(Clone, Copy)]
 pub struct Shown {
     pub control: Control,
     pub count: usize,

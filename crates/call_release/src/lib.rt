@@ -1,4 +1,6 @@
 // Timer events, and the two requests that write no message: cancel and prearranged end (01, "Dialogue states", "Invocation states").
+#![tactic(auto)]
+
 ghost use Rattle.std.specs.Prelude.{◌≡◌, [], ◌<◌};
 ghost use Rattle.paper.specs.Invocations.{invocation_of};
 ghost use Rattle.paper.specs.Dialogues.Request.{Prearranged, Timeout, NoReaction};
@@ -41,7 +43,7 @@ fn class_of(t: &[u8], p: usize, id: u8) -> u8
 }
 
 // What takes an invocation to Idle and does nothing else: the user by a cancel, the reject timer.
-#[derive(Drop)]
+#[derive(Clone, Copy)]
 pub enum Idler {
     User,
     RejectTimer,

@@ -1,4 +1,6 @@
 // The requests that send a message (01, "Dialogue states"): each refused by its number, or the message written and the table changed.
+#![tactic(auto)]
+
 ghost use Rattle.std.specs.Prelude.{◌≡◌, [], ◌+◌, ◌<◌, ◌≤◌, length};
 ghost use Rattle.laws.specs.Runs.{Wrote};
 ghost use Rattle.paper.specs.Sizes.{places_in_all, most_waiting, least_space};
@@ -24,7 +26,7 @@ use paper::{
 };
 
 // The four messages that carry components.
-#[derive(Drop)]
+#[derive(Clone, Copy)]
 pub enum Sending {
     ABegin,
     AContinue,
@@ -101,7 +103,7 @@ fn refusal_with(
 }
 
 // What follows a message's IDs: the octets of its dialogue portion; whether the waiting rejects go; the octets of components.
-#[derive(Drop)]
+#[derive(Clone, Copy)]
 struct Follow {
     portion: usize,
     fits: bool,

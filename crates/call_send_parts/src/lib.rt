@@ -1,4 +1,6 @@
 // What a sending writes after a message's head, and what it leaves of the dialogue (01, "Dialogue states").
+#![tactic(auto)]
+
 ghost use Rattle.std.specs.Prelude.{◌≡◌, ◌+◌, ◌<◌, ◌≤◌, length};
 ghost use Rattle.laws.specs.Runs.{Wrote};
 ghost use Rattle.laws.specs.Lists.{every};
@@ -49,7 +51,7 @@ fn write_rejects(out: &mut [u8], at: usize, c: Control) -> usize
     return e;
 }
 
-#[derive(Drop)]
+#[derive(Clone, Copy)]
 pub struct Sent {
     pub fits: bool,
     pub length: usize,

@@ -1,1 +1,3 @@
 // The three demands: theorems over every history of calls. The crate is its specs/.
+#![tactic(auto)]
+

@@ -1,4 +1,6 @@
 // What a received component does to a dialogue's control record (01, "Invocation states").
+#![tactic(auto)]
+
 ghost use Rattle.std.specs.Prelude.{false, ◌≡◌, ℕ, ◌<◌, get_or};
 ghost use Rattle.paper.specs.declared.Control.{Control};
 ghost use Rattle.paper.specs.Sizes.{most_invocations, most_rejects};
@@ -13,7 +15,7 @@ use paper::{
 
 // What is told of a component: its row's kind and problem, and the slot of ours that changes, with what it then holds; slot 8 for none.
 // Where the kind is 13, a reject waits besides.
-#[derive(Drop)]
+#[derive(Clone, Copy)]
 pub struct Told {
     pub kind: u32,
     pub problem: u32,

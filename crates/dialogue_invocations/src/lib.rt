@@ -1,4 +1,6 @@
 // A dialogue's eight invocations: looked up, changed, transmitted (01, "Invocation states").
+#![tactic(auto)]
+
 ghost use Rattle.std.specs.Prelude.{true, ◌≡◌, ℕ, ◌+◌, ◌<◌, ◌≤◌, [], map, length, get_or};
 ghost use Rattle.paper.specs.Sizes.{most_invocations};
 ghost use Rattle.paper.specs.Invocations.{no_invocation, is_open, is_idle, slot_of, idle_slot, invocation_of, with_invocation, to_idle, all_idle, transmitted, rejecting_ids, all_transmitted, rejecting, may_reject};

@@ -1,4 +1,6 @@
 // THE CALLS, as a C host sees them (include/tcap.h): each hands on to the crate that has it.
+#![tactic(auto)]
+
 ghost use Rattle.std.specs.Prelude.{◌≡◌, [], ◌+◌, ◌≤◌, length};
 ghost use Rattle.paper.specs.Sizes.{octet_of};
 ghost use Rattle.paper.specs.Components.{last_tag, not_last_tag, no_id};
@@ -277,7 +279,7 @@ pub extern "C" fn tcap_no_reaction(
 
 // Where a component's parameter stands in the message; 0, 0 for none.
 #[repr(C)]
-#[derive(Drop)]
+#[derive(Clone, Copy)]
 pub struct Span {
     pub start: usize,
     pub length: usize,

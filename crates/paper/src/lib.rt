@@ -1,7 +1,8 @@
 // The types of document 01, by value. What they mean stands in specs/, a file for each section of 01; no function is here.
+#![tactic(auto)]
 
 // A length as it is coded: none of the four forms; (where the contents begin, how many octets); 80 (where they begin).
-#[derive(Drop)]
+#[derive(Clone, Copy)]
 pub enum Length {
     Wrong,
     Given(usize, usize),
@@ -9,7 +10,7 @@ pub enum Length {
 }
 
 // The tag and length of an element: malformed; a primitive (its end); a constructor (contents from, to); one of length 80 (from).
-#[derive(Drop)]
+#[derive(Clone, Copy)]
 pub enum Head {
     Bad,
     Whole(usize),
@@ -18,14 +19,14 @@ pub enum Head {
 }
 
 // What the reading of an element gives: where it ends, or the octet at which its first fault lies.
-#[derive(Drop)]
+#[derive(Clone, Copy)]
 pub enum Reading {
     Ends(usize),
     Fault(usize),
 }
 
 // The frame of an element: its contents from, to, and where it stops; stop is 0 where there is no frame.
-#[derive(Drop)]
+#[derive(Clone, Copy)]
 pub struct Frame {
     pub from: usize,
     pub to: usize,
@@ -34,7 +35,7 @@ pub struct Frame {
 
 // A component as it is read. IDs are octets, 256 none. fault: 3 sound, else the general problem code 0 to 2.
 // stop: where it ends, 0 without a frame. The parameter lies from par to parstop, 0 and 0 for none.
-#[derive(Drop)]
+#[derive(Clone, Copy)]
 pub struct Component {
     pub tag: u8,
     pub id: u32,
@@ -47,7 +48,7 @@ pub struct Component {
 }
 
 // A run of octets of a message; length 0 for none.
-#[derive(Drop)]
+#[derive(Clone, Copy)]
 pub struct Run {
     pub start: usize,
     pub length: usize,
@@ -55,7 +56,7 @@ pub struct Run {
 
 // A message as it is read. fault: 255 sound, 254 dropped for its form, else the P-Abort cause 0 or 2.
 // The components stand from `from` to `to`, 0 and 0 without a 6C. cause: that of a 4A, 65,535 none.
-#[derive(Drop)]
+#[derive(Clone, Copy)]
 pub struct Message {
     pub tag: u8,
     pub fault: u8,
@@ -69,7 +70,7 @@ pub struct Message {
 
 // A dialogue PDU (02 a) as far as its pieces are read: where the next one begins, 0 where one was wrong; the runs of its context name and
 // of its user information; result, diagnostic and abort source as numbers of a row, 65,535 none.
-#[derive(Drop)]
+#[derive(Clone, Copy)]
 pub struct Pdu {
     pub at: usize,
     pub name: Run,
@@ -81,7 +82,7 @@ pub struct Pdu {
 
 // A dialogue portion as it is read (02 a): none; one of another form; dialogue request (name, information); response (name, information,
 // result, diagnostic); abort (source, information); unidirectional (name, information).
-#[derive(Drop)]
+#[derive(Clone, Copy)]
 pub enum Portion {
     Absent,
     Opaque,
@@ -92,7 +93,7 @@ pub enum Portion {
 }
 
 // An invocation: state 0 Idle, 1 Pending, 2 Sent, 3 Wait, 4 Rejecting; shown: 1 after a result not last was shown.
-#[derive(Drop)]
+#[derive(Clone, Copy)]
 pub struct Invocation {
     pub id: u8,
     pub class: u8,
@@ -101,14 +102,14 @@ pub struct Invocation {
 }
 
 // A waiting reject: its invoke ID, 256 none; its problem as in a row.
-#[derive(Drop)]
+#[derive(Clone, Copy)]
 pub struct Reject {
     pub id: u32,
     pub problem: u32,
 }
 
 // What a place holds beside its waiting octets. state: 0 free, 1 Open, 2 Sent, 3 Received, 4 Active.
-#[derive(Drop)]
+#[derive(Clone, Copy)]
 pub struct Control {
     pub turn: u32,
     pub state: u8,
@@ -121,7 +122,7 @@ pub struct Control {
 }
 
 // A row: eight numbers.
-#[derive(Drop)]
+#[derive(Clone, Copy)]
 pub struct Row {
     pub kind: u32,
     pub dialogue: u32,
@@ -134,7 +135,7 @@ pub struct Row {
 }
 
 // What a component does: the control record after it, its row's kind and problem.
-#[derive(Drop)]
+#[derive(Clone, Copy)]
 pub struct Acted {
     pub control: Control,
     pub kind: u32,

@@ -1,4 +1,6 @@
 // Decimal and hex, printed and read: what is printed is read back, and what is read is printed again (specs/Back.antt).
+#![tactic(auto)]
+
 ghost use Rattle.std.specs.Prelude.{◌+◌, ◌*◌, ◌-◌, ◌<◌, ◌≤◌, min, ◌≡◌, true, List, [], ◌∷◌, length, take, drop};
 ghost use Rattle.std.proofs.lemmas.List.Edits.{sets};
 ghost use Rattle.program_text.specs.Said.{Said};
@@ -8,7 +10,7 @@ ghost use Rattle.program_digits.specs.Digits.{decimal as digits_decimal, dialogu
 use program_text::{put, word};
 
 // What a text holds as a number; 0 where it is none. One too large for 32 bits is the largest of 32 bits.
-#[derive(Drop)]
+#[derive(Clone, Copy)]
 pub struct Number {
     pub value: u32,
     pub ok: bool,

@@ -1,4 +1,6 @@
 // The lines of standard input, one after another, each in a lent space.
+#![tactic(auto)]
+
 ghost use Rattle.std.specs.Prelude.{◌≡◌, ◌≤◌, length};
 ghost use Rattle.program_lines.specs.Within.{Within};
 ghost use Rattle.program_lines.specs.Within.{unread};
@@ -7,7 +9,7 @@ use libc::STDIN_FILENO;
 
 // A line so far: the next octet of the buffer and how many it has; its number; how many of its octets the space has, whether
 // there are more than the space takes; whether it has ended; whether the input ended before it, so that there is none.
-#[derive(Drop)]
+#[derive(Clone, Copy)]
 pub struct Line {
     pub at: usize,
     pub have: usize,

@@ -1,4 +1,6 @@
 // What a call or a reader gives, as text: a message, a row, a component.
+#![tactic(auto)]
+
 ghost use Rattle.std.specs.Prelude.{◌<◌, ◌≤◌, ◌≡◌, length, take};
 ghost use Rattle.paper.specs.Readers.{message_items};
 ghost use Rattle.reading_reader.specs.Whole.{PieceFits};
@@ -81,7 +83,7 @@ fn component_line(out: &mut [u8], at: usize, c: Component) -> usize
 }
 
 // How far a message's components are listed: how many, the cursor that the last one gave, whether there may be more.
-#[derive(Drop)]
+#[derive(Clone, Copy)]
 pub struct Listed {
     pub count: u64,
     pub last: usize,

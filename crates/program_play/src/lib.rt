@@ -1,10 +1,12 @@
 // The lines of standard input played on one table. There are no function values, so the one loop is over whose lines they are.
+#![tactic(auto)]
+
 ghost use Rattle.std.specs.Prelude.{◌≤◌, length};
 
 use program_lines::Line;
 
 // Whose lines are played: the vectors' (vectors/README.md), parted by blanks, or those of 01's "Octets to try", parted by tabs.
-#[derive(Drop)]
+#[derive(Clone, Copy)]
 pub enum Player {
     Replay,
     Session,

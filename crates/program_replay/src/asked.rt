@@ -6,7 +6,7 @@ use program_digits::Number;
 use program_words::Field;
 
 // Service, dialogue and invoke ID: the first three fields after the verb.
-#[derive(Drop)]
+#[derive(Clone, Copy)]
 pub struct Named {
     pub service: u32,
     pub dialogue: u32,

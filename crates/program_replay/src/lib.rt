@@ -1,4 +1,6 @@
 // A line of the vectors' form (vectors/README.md) played on one table, and what it gives written in that form.
+#![tactic(auto)]
+
 mod asked;
 mod call;
 mod show;

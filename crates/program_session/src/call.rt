@@ -7,7 +7,7 @@ use program_digits::Number;
 use program_words::Pair;
 
 // What it gave: the dialogue only where there is one to tell of. `read` tells whether it was a line that can be read.
-#[derive(Drop)]
+#[derive(Clone, Copy)]
 pub struct Played {
     pub read: bool,
     pub answer: u32,

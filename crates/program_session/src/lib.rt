@@ -1,4 +1,6 @@
 // A line of 01's "Octets to try" played on one table, and what it gives written.
+#![tactic(auto)]
+
 mod call;
 mod show;
 

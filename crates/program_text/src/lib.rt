@@ -1,4 +1,6 @@
 // A line of text made in a lent space, cut where the space ends.
+#![tactic(auto)]
+
 ghost use Rattle.std.specs.Prelude.{◌≤◌, min, ◌≡◌, List, [], ◌∷◌, length};
 ghost use Rattle.program_text.specs.Said.{Said};
 

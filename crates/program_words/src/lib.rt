@@ -1,11 +1,13 @@
 // The words of a line, parted by one separator, and the octets that they give in hex.
+#![tactic(auto)]
+
 ghost use Rattle.std.specs.Prelude.{◌+◌, ◌<◌, ◌≤◌, ◌≡◌, length, drop};
 ghost use Rattle.laws.specs.If.{if_b};
 ghost use Rattle.program_words.specs.Words.{up_to, word_of, field_of, count, same, cut_of, octets_of, with_octets, or_none, with_or_none, Two};
 ghost use Rattle.program_words.specs.Words.{past as words_past};
 
 // A part of a line, from `start` up to `stop`; not `ok` where it holds something else than was asked for.
-#[derive(Drop)]
+#[derive(Clone, Copy)]
 pub struct Field {
     pub start: usize,
     pub stop: usize,
@@ -160,7 +162,7 @@ pub fn octets_or_none(line: &mut [u8], f: Field) -> Field
 }
 
 // The octets of two words that follow each other, `-` for none. What comes before them in the line stays.
-#[derive(Drop)]
+#[derive(Clone, Copy)]
 pub struct Pair {
     pub first: Field,
     pub second: Field,

@@ -5,7 +5,7 @@ ghost use Rattle.read.specs.Line.{LineIn};
 use crate::show;
 
 // A line so far: its number; how many octets it has, as many as the space for any more; a digit that waits for its second, 16 none.
-#[derive(Drop)]
+#[derive(Clone, Copy)]
 pub struct Line {
     pub number: u64,
     pub count: usize,

@@ -3,6 +3,8 @@
 // originating and destination ID, start and length of the dialogue portion, P-Abort cause. Then a line for each sound component,
 // `c TAG START LENGTH ID LINKED PROBLEM PSTART PLENGTH` with the numbers of a row, and for the first syntax fault
 // `fault CODE START LENGTH`, the code that of the general problem.
+#![tactic(auto)]
+
 mod line;
 mod show;
 

@@ -1,5 +1,7 @@
 // One component read at a position of the message (01, "Coding" and, for the faults, the end of "Invocation states").
 // t is its tag, id its invoke ID, x where it stops; e is where its contents, or those of a 30 in it, end.
+#![tactic(auto)]
+
 ghost use Rattle.std.specs.Prelude.{◌≡◌, ℕ, ◌+◌, ◌*◌, ◌-◌, ◌<◌, ◌≤◌, length};
 ghost use Rattle.paper.specs.Sizes.{depths};
 ghost use Rattle.paper.specs.Elements.{element};

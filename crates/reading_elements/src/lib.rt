@@ -1,4 +1,6 @@
 // Elements read (01, "Coding"): tag, length, element and contents, frame. Positions into one slice; lim is where the octets around end.
+#![tactic(auto)]
+
 ghost use Rattle.std.specs.Prelude.{true, false, ◌≡◌, ℕ, ◌+◌, ◌*◌, ◌-◌, ◌%◌, ◌<◌, ◌≤◌, length};
 ghost use Rattle.paper.specs.Elements.{tag_more, tag_end, length_at, head_at, ended, contents, element, frame_at};
 ghost use Rattle.paper.specs.declared.Reading.TheVariants.{Ends};
@@ -8,7 +10,7 @@ ghost use Rattle.reading_elements.specs.Short.{Short};
 use paper::{Frame, Head, Length, Reading};
 
 // A frame, and whether the element in it is well formed.
-#[derive(Drop)]
+#[derive(Clone, Copy)]
 pub struct Nesting {
     pub frame: Frame,
     pub sound: bool,

@@ -1,4 +1,6 @@
 // A message read in order (01, "Coding" and "A received message"). indefinite: the outer length is 80, so 00 00 ends the message.
+#![tactic(auto)]
+
 ghost use Rattle.std.specs.Prelude.{◌≡◌, ◌+◌, ◌-◌, ◌<◌, ◌≤◌, length};
 ghost use Rattle.paper.specs.Messages.{id_at, origin_of, past, destination_of, derived, fault_of, sound_of, closes, closing, octet_at, components_by, components_part};
 ghost use Rattle.paper.specs.Messages.{abort_part, after_portion, portion_part, in_order, known_type, by_length, message_of};
@@ -21,7 +23,7 @@ const NONE: Run = Run {
 };
 
 // The message so far: its type, and the IDs that are derivable.
-#[derive(Drop)]
+#[derive(Clone, Copy)]
 struct Seen {
     tag: u8,
     origin: Run,

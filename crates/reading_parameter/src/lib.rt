@@ -1,4 +1,6 @@
 // A component's parameter (01, "Rows"): "that run of the received octets themselves, an empty one where there is none or no sound component".
+#![tactic(auto)]
+
 ghost use Rattle.std.specs.Prelude.{◌≡◌, ◌+◌, ◌≤◌, length};
 ghost use Rattle.paper.specs.Readers.{parameter_of, parameter_at, parameter};
 

@@ -1,4 +1,6 @@
 // A dialogue portion read (02 a; 004, 4.2.3). Positions into the portion's own octets l; e is where the octets around end.
+#![tactic(auto)]
+
 ghost use Rattle.std.specs.Prelude.{true, ◌≡◌, ◌+◌, ◌-◌, ◌<◌, ◌≤◌, length};
 ghost use Rattle.reading_elements.specs.Bounds.{FrameIn};
 ghost use Rattle.paper.specs.Portions.{Piece, structured, unstructured, aarq, aare, abrt, audt, forms};

@@ -1,4 +1,6 @@
 // Who sends a problem code (01, "Coding"): 0 the component sub-layer, 1 the user, 2 nobody. A kind is the problem's tag less 128.
+#![tactic(auto)]
+
 ghost use Rattle.std.specs.Prelude.{◌≡◌};
 ghost use Rattle.paper.specs.Problems.{sender_of};
 

@@ -1,17 +1,19 @@
 // "a reader that stays on one message and gives its components one after another up to a syntax fault" (01, "Rows").
+#![tactic(auto)]
+
 ghost use Rattle.std.specs.Prelude.{◌≡◌};
 ghost use Rattle.reading_reader.specs.Read.{first_cursor, piece_in, piece_at, at_start, next_of, moved_to};
 
 use paper::{Component, IS_SOUND, LONGEST_MESSAGE, NO_FAULT};
 
 // The message, and the cursor: 0 at its start, else 1024 times where the components end, plus where the next one starts.
-#[derive(Drop)]
+#[derive(Clone, Copy)]
 pub struct Reader<'a> {
     pub msg: &'a [u8],
     pub at: usize,
 }
 
-#[derive(Drop)]
+#[derive(Clone, Copy)]
 pub enum Piece {
     // where it starts, the component, and the cursor for the next one
     Part(usize, Component, usize),

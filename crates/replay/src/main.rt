@@ -1,6 +1,8 @@
 // Plays the calls on standard input, in the form that vectors/README.md gives, on one table, and writes after each what it gives, in
 // that form. Comments and the lines that tell what a call gives are passed over, so that a file of vectors may be fed as it is. A line
 // that cannot be read, or of more than 16,384 octets, gives its number and `bad`.
+#![tactic(auto)]
+
 use paper::{LEAST_ROWS, LEAST_SPACE, TABLE_OCTETS};
 use program_play::Player;
 

@@ -1,6 +1,8 @@
 // Plays the lines of standard input on one table with guarantees 4 and limits 64 (01, "Octets to try"): service and verb, then what the verb
 // takes, parted by tabs. Written for each, likewise: line number, answer, dialogue, its state after, row count, message. A line
 // that is none of these, or of more than 1,048,576 octets, gives its number and `bad`.
+#![tactic(auto)]
+
 use paper::{LEAST_ROWS, LEAST_SPACE, TABLE_OCTETS};
 use program_play::Player;
 

@@ -2,6 +2,8 @@
 // That paper's constants are the offsets of the list of fields is proved by the contract of the function that reads there: PLACES and
 // PLACE_OCTETS by slot; TURN, STATE, SERVICE, PEER_LENGTH, PEER, WAITING_LENGTH, REJECTS_WAITING, INVOCATIONS, REJECTS by turn, state .. rejects_at;
 // elsewhere WAITING and FIRST_WAITING by table_places' waiting, TABLE_OCTETS, GUARANTEES and LIMITS by table_rules' check.
+#![tactic(auto)]
+
 ghost use Rattle.std.specs.Prelude.{◌≡◌, ◌+◌, ◌*◌, ◌<◌, length, get_or};
 ghost use Rattle.paper.specs.Sizes.{places_in_all, most_invocations, most_rejects, turns};
 ghost use Rattle.paper.specs.Layout.{table_size, place_size, waiting_length_at, first_invocation, first_reject, invocation_by, reject_by, control_by, slot};

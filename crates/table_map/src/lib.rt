@@ -1,5 +1,7 @@
 // The free map (01, "Sizes"): "A free place is found in a map of 64-bit words, one bit a place; the lowest is taken."
 // It is the first 16 octets of the table; a bit is set where its place is free.
+#![tactic(auto)]
+
 ghost use Rattle.std.specs.Prelude.{◌≡◌, ◌++◌, ◌+◌, ◌*◌, ◌-◌, ◌≤◌, ◌<◌, length, take};
 ghost use Rattle.laws.specs.Digits.{digits, lowest, count, octet_digits, word_at};
 ghost use Rattle.paper.specs.Sizes.{places_in_all};

@@ -1,4 +1,6 @@
 // One place of the table loaded by value and stored back. A store writes that place's octets and its bit of the map, nothing else.
+#![tactic(auto)]
+
 ghost use Rattle.std.specs.Prelude.{◌≡◌, [], ◌≤◌, ◌<◌, length};
 ghost use Rattle.laws.specs.Parts.{over};
 ghost use Rattle.paper.specs.Sizes.{places_in_all, most_rejects, most_waiting, turns, local_id, next_turn};

@@ -1,5 +1,7 @@
 // The table rules (01, "Answer numbers"): one pass over the 128 places, which counts them too, so that no call walks the table twice.
 // A run of zeros is an OR over all of it, which is quicker than leaving at the first octet that is not 0.
+#![tactic(auto)]
+
 ghost use Rattle.std.specs.Prelude.{◌≡◌, false, ◌+◌, ◌*◌, ◌≤◌, ◌<◌, eqb, length, drop, get_or};
 ghost use Rattle.laws.specs.Lists.{zeros};
 ghost use Rattle.laws.specs.Sums.{sum};
@@ -418,7 +420,7 @@ fn kind_of(t: &[u8], p: usize) -> usize
     BROKEN
 }
 
-#[derive(Drop)]
+#[derive(Clone, Copy)]
 pub struct Kinds {
     pub ok: bool,
     pub counts: [u8; SERVICES],
@@ -461,7 +463,7 @@ fn total(counts: [u8; SERVICES]) -> u32
     n
 }
 
-#[derive(Drop)]
+#[derive(Clone, Copy)]
 pub struct Checked {
     pub answer: u32,
     pub counts: [u8; SERVICES],

@@ -1,5 +1,7 @@
 // The share rule (demand 3), of any resource that services share: its laws stand in specs/, the decisions on numbers are here. How much
 // there is of a resource is a number handed in, and what a service may and does have are numbers of 32 bits, whatever the octets they stand in.
+#![tactic(auto)]
+
 ghost use Rattle.std.specs.Prelude.{◌≡◌, false, ℕ, ◌+◌, ◌-◌, ◌<◌, leb, length, get_or};
 ghost use Rattle.laws.specs.If.{if_lt};
 ghost use Rattle.paper.specs.Sizes.{services};
@@ -24,7 +26,7 @@ pub fn gives_place(count: u32, guarantee: u32, limit: u32, unused: u32, free: u3
     true
 }
 
-#[derive(Drop)]
+#[derive(Clone, Copy)]
 pub struct Share {
     pub guarantee: u32,
     pub limit: u32,
@@ -76,7 +78,7 @@ fn fair(over: u32, sum: u32, unused: u32, size: u32, free: u32) -> bool
     unused <= free
 }
 
-#[derive(Drop)]
+#[derive(Clone, Copy)]
 pub struct Kept {
     pub ok: bool,
     pub unused: u32,

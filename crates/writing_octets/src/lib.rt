@@ -1,4 +1,6 @@
 // Everything the engine writes (01, "Coding"): into a lent space, at a position; each answers the position past it.
+#![tactic(auto)]
+
 ghost use Rattle.std.specs.Prelude.{◌≡◌, ◌+◌, ◌-◌, ◌<◌, ◌≤◌, [], ◌∷◌, length, replicate};
 ghost use Rattle.laws.specs.Runs.{Wrote};
 ghost use Rattle.paper.specs.Writing.{length_octets};

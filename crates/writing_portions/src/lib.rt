@@ -1,4 +1,6 @@
 // The dialogue portions written (02 a): into a lent space, at a position. A PDU is told by its kind.
+#![tactic(auto)]
+
 ghost use Rattle.std.specs.Prelude.{◌≡◌, ◌+◌, ◌≤◌, length};
 ghost use Rattle.laws.specs.Runs.{Wrote};
 ghost use Rattle.paper.specs.Sizes.{most_waiting};

@@ -1,4 +1,6 @@
 // Rows: eight numbers of four octets, least significant first (01, "Rows").
+#![tactic(auto)]
+
 ghost use Rattle.std.specs.Prelude.{◌≡◌, ◌+◌, ◌*◌, ◌-◌, ◌<◌, ◌≤◌, length};
 ghost use Rattle.std.proofs.lemmas.List.Edits.{sets};
 ghost use Rattle.paper.specs.Rows.{signed, start_of, extent_of, dialogue_row, cancel_row, component_row, row_octets};
