@@ -1,0 +1,57 @@
+use Rattle.reading_elements.specs.Steps.{by-head, nesting-told}
+use Rattle.reading_elements.specs.Bounds.{HeadIn, element-in}
+use mathlib.Core.Path.{sym, ◌∙◌, subst}
+use native.Mathlib.Omega.{arith}
+use Rattle.reading_elements.proofs.nesting_at.Goals as goal
+
+pub contents-requires : goal.contents-requires
+contents-requires c =
+    omega (arith, subst (HeadIn _ _) c.in-Holds.is c.head_at.ensures.within)
+
+pub contents-requires-in-Opens : goal.contents-requires-in-Opens
+contents-requires-in-Opens c =
+    omega (arith, subst (HeadIn _ _) c.in-Opens.is c.head_at.ensures.within)
+
+pub overflow_sub-x : goal.overflow_sub-x
+overflow_sub-x c =
+    omega (
+      arith,
+      element-in _ _ _ _ _ (sym c.in-Ends-contents.is ∙ c.contents-in-Opens.ensures _ (omega arith)
+          ∙ by-head _ _ _ _ _ (λ z. omega arith) (sym c.in-Opens.is ∙ c.head_at.ensures.is)),
+    )
+
+pub returns-in-Bad : goal.returns-in-Bad
+returns-in-Bad c =
+    let h = sym c.in-Bad.is ∙ c.head_at.ensures.is in
+    let both = nesting-told _ c.args.left _ _ _ _ h (by-head _ c.args.left _ _ _ (λ z. omega arith) h) c.unsound.ensures in
+    record { is = both.0; within = both.1.0; sound = both.1.1 }
+
+pub returns-in-Whole : goal.returns-in-Whole
+returns-in-Whole c =
+    let h = sym c.in-Whole.is ∙ c.head_at.ensures.is in
+    let both = nesting-told _ c.args.left _ _ _ _ h (by-head _ c.args.left _ _ _ (λ z. omega arith) h) c.sound.ensures in
+    record { is = both.0; within = both.1.0; sound = both.1.1 }
+
+pub returns-in-Ends : goal.returns-in-Ends
+returns-in-Ends c =
+    let h = sym c.in-Holds.is ∙ c.head_at.ensures.is in
+    let both = nesting-told _ _ _ _ _ _ h (sym c.in-Ends.is ∙ c.contents.ensures _ (omega arith) ∙ by-head _ _ _ _ _ (λ z. omega arith) h) c.sound-in-Ends.ensures in
+    record { is = both.0; within = both.1.0; sound = both.1.1 }
+
+pub returns-in-Fault : goal.returns-in-Fault
+returns-in-Fault c =
+    let h = sym c.in-Holds.is ∙ c.head_at.ensures.is in
+    let both = nesting-told _ _ _ _ _ _ h (sym c.in-Fault.is ∙ c.contents.ensures _ (omega arith) ∙ by-head _ _ _ _ _ (λ z. omega arith) h) c.unsound-in-Fault.ensures in
+    record { is = both.0; within = both.1.0; sound = both.1.1 }
+
+pub returns-in-Ends-contents : goal.returns-in-Ends-contents
+returns-in-Ends-contents c =
+    let h = sym c.in-Opens.is ∙ c.head_at.ensures.is in
+    let both = nesting-told _ _ _ _ _ _ h (sym c.in-Ends-contents.is ∙ c.contents-in-Opens.ensures _ (omega arith) ∙ by-head _ _ _ _ _ (λ z. omega arith) h) c.sound-in-Ends-contents.ensures in
+    record { is = both.0; within = both.1.0; sound = both.1.1 }
+
+pub returns-in-Fault-contents : goal.returns-in-Fault-contents
+returns-in-Fault-contents c =
+    let h = sym c.in-Opens.is ∙ c.head_at.ensures.is in
+    let both = nesting-told _ _ _ _ _ _ h (sym c.in-Fault-contents.is ∙ c.contents-in-Opens.ensures _ (omega arith) ∙ by-head _ _ _ _ _ (λ z. omega arith) h) c.unsound-in-Fault-contents.ensures in
+    record { is = both.0; within = both.1.0; sound = both.1.1 }
