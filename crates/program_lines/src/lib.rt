@@ -5,7 +5,7 @@ ghost use Rattle.std.specs.Prelude.{◌≡◌, ◌≤◌, length};
 ghost use Rattle.program_lines.specs.Within.{Within};
 ghost use Rattle.program_lines.specs.Within.{unread};
 
-use libc::STDIN_FILENO;
+use std::io::Read;
 
 // A line so far: the next octet of the buffer and how many it has; its number; how many of its octets the space has, whether
 // there are more than the space takes; whether it has ended; whether the input ended before it, so that there is none.
@@ -50,8 +50,19 @@ fn after(l: Line) -> Line
     }
 }
 
+// Some octets of standard input, none where it has ended or cannot be read: how many.
+fn read(rt: &impl Input, buf: &mut [u8]) -> usize
+    ensures { result ≤ length buf.new }
+{
+    let mut input = rt.reader();
+    match input.read(buf) {
+        Ok(n) => n,
+        Err(_) => 0,
+    }
+}
+
 // A buffer that is used up is filled again; it stays empty where the input has ended.
-fn filled(buf: &mut [u8], l: Line) -> Line
+fn filled(rt: &impl Input, buf: &mut [u8], l: Line) -> Line
     requires { (l.at ≤ l.have) × (l.have ≤ length buf.old) }
     ensures { (result.at ≤ result.have) × (result.have ≤ length buf.new) × (result.count ≡ l.count) }
 {
@@ -59,7 +70,7 @@ fn filled(buf: &mut [u8], l: Line) -> Line
     if l.at < l.have {
         return l;
     }
-    let n = io::read_full(STDIN_FILENO, buf);
+    let n = read(rt, buf);
     l.at = 0;
     l.have = n;
     l
@@ -96,11 +107,11 @@ fn with(line: &mut [u8], l: Line, x: u8) -> Line
 }
 
 // One octet of the input taken.
-fn step(buf: &mut [u8], line: &mut [u8], l: Line) -> Line
+fn step(rt: &impl Input, buf: &mut [u8], line: &mut [u8], l: Line) -> Line
     requires { Within (length buf.old) (length line.old) l }
     ensures { Within (length buf.new) (length line.new) result }
 {
-    let mut f = filled(buf, l);
+    let mut f = filled(rt, buf, l);
     let at = f.at;
     if at >= f.have {
         return ended(f);
@@ -110,14 +121,14 @@ fn step(buf: &mut [u8], line: &mut [u8], l: Line) -> Line
 }
 
 // The next line. Nothing says that it ends, so the loop counts its turns down, from a number that no run uses up.
-pub fn next(buf: &mut [u8], line: &mut [u8], l: Line) -> Line
+pub fn next(rt: &impl Input, buf: &mut [u8], line: &mut [u8], l: Line) -> Line
     requires { Within (length buf.old) (length line.old) l }
     ensures { Within (length buf.new) (length line.new) result }
 {
     let mut m = after(l);
     let mut turns = u64::MAX;
     while turns > 0 {
-        m = step(buf, line, m);
+        m = step(rt, buf, line, m);
         if m.whole {
             break;
         }
@@ -127,12 +138,12 @@ pub fn next(buf: &mut [u8], line: &mut [u8], l: Line) -> Line
 }
 
 // A line that cannot be read: its number and `bad`. How many octets that is.
-pub fn bad(number: u64, separator: u8) -> usize
+pub fn bad(rt: &impl Print, number: u64, separator: u8) -> usize
     ensures { result ≡ length (unread number separator) }
 {
     let mut out = [0u8; 32];
     let a = program_digits::decimal(&mut out, 0, number);
     let b = program_text::put(&mut out, a, separator);
     let n = program_text::word(&mut out, b, b"bad\n");
-    program_text::say(&out, n)
+    program_text::say(rt, &out, n)
 }

@@ -91,7 +91,7 @@ pub struct Listed {
 }
 
 // With the piece that the reader gives; a line for a component, where it is to be shown.
-fn taken(l: Listed, p: Piece, shown: bool) -> Listed
+fn taken(rt: &impl Print, l: Listed, p: Piece, shown: bool) -> Listed
     requires { (l.count ≤ 525312) × PieceFits l.last p }
     ensures { result ≡ with_piece l p }
 {
@@ -100,7 +100,7 @@ fn taken(l: Listed, p: Piece, shown: bool) -> Listed
             if shown {
                 let mut out = [0u8; 256];
                 let n = component_line(&mut out, at, c);
-                program_text::say(&out, n);
+                program_text::say(rt, &out, n);
             }
             Listed {
                 count: l.count + 1,
@@ -117,7 +117,7 @@ fn taken(l: Listed, p: Piece, shown: bool) -> Listed
 }
 
 // "a reader that stays on one message and gives its components one after another" (01, "Rows"): one, in a local.
-pub fn components(msg: &[u8], shown: bool) -> Listed
+pub fn components(rt: &impl Print, msg: &[u8], shown: bool) -> Listed
     ensures { result.count ≡ length (message_items msg.now) }
 {
     let mut r = reading_reader::new(msg);
@@ -127,7 +127,7 @@ pub fn components(msg: &[u8], shown: bool) -> Listed
         more: true,
     };
     while l.more {
-        l = taken(l, reading_reader::next(r), shown);
+        l = taken(rt, l, reading_reader::next(r), shown);
         r = reading_reader::moved(r, l.last);
     }
     l

@@ -21,6 +21,7 @@ fn separator(player: Player) -> u8 {
 
 // A line that is longer than its space cannot be read.
 fn play(
+    rt: &impl Print,
     player: Player,
     table: &mut [u8],
     rows: &mut [u8],
@@ -31,22 +32,23 @@ fn play(
     requires { l.count ≤ length line.old }
 {
     if l.long {
-        program_lines::bad(l.number, separator(player));
+        program_lines::bad(rt, l.number, separator(player));
         return;
     }
     let n = l.count;
     match player {
         Player::Replay => {
-            program_replay::play(table, rows, space, &mut line[0..n], l.number);
+            program_replay::play(rt, table, rows, space, &mut line[0..n], l.number);
         }
         Player::Session => {
-            program_session::play(table, rows, space, &mut line[0..n], l.number);
+            program_session::play(rt, table, rows, space, &mut line[0..n], l.number);
         }
     }
 }
 
 // Nothing says that the input ends, so the loop counts its turns down, from a number that no run uses up.
 pub fn lines(
+    rt: &(impl Print + Input),
     player: Player,
     buf: &mut [u8],
     table: &mut [u8],
@@ -57,11 +59,11 @@ pub fn lines(
     let mut l = program_lines::start();
     let mut turns = u64::MAX;
     while turns > 0 {
-        l = program_lines::next(buf, line, l);
+        l = program_lines::next(rt, buf, line, l);
         if l.none {
             break;
         }
-        play(player, table, rows, space, line, l);
+        play(rt, player, table, rows, space, line, l);
         turns -= 1;
     }
 }

@@ -290,7 +290,7 @@ fn reply_to(table: &mut [u8], rows: &mut [u8], space: &mut [u8], line: &mut [u8]
 }
 
 // `parameter OCTETS START LENGTH`
-fn parameter(line: &mut [u8], number: u64) {
+fn parameter(rt: &impl Print, line: &mut [u8], number: u64) {
     let n = program_words::separators(line, b' ');
     let start = asked::number(line, 2);
     let count = asked::number(line, 3);
@@ -298,17 +298,18 @@ fn parameter(line: &mut [u8], number: u64) {
     let m = program_words::octets_or_none(line, f);
     if n == 3 && start.ok && count.ok && m.ok {
         show::parameter_line(
+            rt,
             program_words::cut(line, m),
             start.value as usize,
             count.value as usize,
         );
         return;
     }
-    program_lines::bad(number, b' ');
+    program_lines::bad(rt, number, b' ');
 }
 
 // `portion OCTETS START LENGTH`
-fn portion(rows: &mut [u8], line: &mut [u8], number: u64) {
+fn portion(rt: &impl Print, rows: &mut [u8], line: &mut [u8], number: u64) {
     let n = program_words::separators(line, b' ');
     let start = asked::number(line, 2);
     let count = asked::number(line, 3);
@@ -321,22 +322,22 @@ fn portion(rows: &mut [u8], line: &mut [u8], number: u64) {
             count.value as usize,
             rows,
         );
-        show::portion_line(rows);
+        show::portion_line(rt, rows);
         return;
     }
-    program_lines::bad(number, b' ');
+    program_lines::bad(rt, number, b' ');
 }
 
 // `components OCTETS`
-fn components(line: &mut [u8], number: u64) {
+fn components(rt: &impl Print, line: &mut [u8], number: u64) {
     let f = asked::field(line, 1);
     let n = program_words::separators(line, b' ');
     let m = program_words::octets_or_none(line, f);
     if n == 1 && m.ok {
-        show::component_lines(program_words::cut(line, m));
+        show::component_lines(rt, program_words::cut(line, m));
         return;
     }
-    program_lines::bad(number, b' ');
+    program_lines::bad(rt, number, b' ');
 }
 
 // A comment, or what a call gives.
@@ -356,32 +357,46 @@ fn passed_over(line: &[u8]) -> bool {
     asked::verb(line, b"c")
 }
 
-fn called(table: &mut [u8], rows: &mut [u8], space: &mut [u8], line: &mut [u8], number: u64) {
+fn called(
+    rt: &impl Print,
+    table: &mut [u8],
+    rows: &mut [u8],
+    space: &mut [u8],
+    line: &mut [u8],
+    number: u64,
+) {
     let opens = asked::verb(line, b"open");
     let r = reply_to(table, rows, space, line);
     if r.answer == UNREAD {
-        program_lines::bad(number, b' ');
+        program_lines::bad(rt, number, b' ');
         return;
     }
-    show::reply(r, opens, space);
-    show::row_lines(rows, r.rows);
+    show::reply(rt, r, opens, space);
+    show::row_lines(rt, rows, r.rows);
 }
 
-pub fn play(table: &mut [u8], rows: &mut [u8], space: &mut [u8], line: &mut [u8], number: u64) {
+pub fn play(
+    rt: &impl Print,
+    table: &mut [u8],
+    rows: &mut [u8],
+    space: &mut [u8],
+    line: &mut [u8],
+    number: u64,
+) {
     if passed_over(line) {
         return;
     }
     if asked::verb(line, b"parameter") {
-        parameter(line, number);
+        parameter(rt, line, number);
         return;
     }
     if asked::verb(line, b"components") {
-        components(line, number);
+        components(rt, line, number);
         return;
     }
     if asked::verb(line, b"portion") {
-        portion(rows, line, number);
+        portion(rt, rows, line, number);
         return;
     }
-    called(table, rows, space, line, number);
+    called(rt, table, rows, space, line, number);
 }

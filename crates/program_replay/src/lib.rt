@@ -5,6 +5,13 @@ mod asked;
 mod call;
 mod show;
 
-pub fn play(table: &mut [u8], rows: &mut [u8], space: &mut [u8], line: &mut [u8], number: u64) {
-    call::play(table, rows, space, line, number);
+pub fn play(
+    rt: &impl Print,
+    table: &mut [u8],
+    rows: &mut [u8],
+    space: &mut [u8],
+    line: &mut [u8],
+    number: u64,
+) {
+    call::play(rt, table, rows, space, line, number);
 }

@@ -34,39 +34,39 @@ fn message_line(out: &mut [u8], at: usize, r: Reply, space: &[u8]) -> usize
     program_text::put(out, c, b'\n')
 }
 
-pub fn reply(r: Reply, opens: bool, space: &[u8]) {
+pub fn reply(rt: &impl Print, r: Reply, opens: bool, space: &[u8]) {
     let mut out = [0u8; 1024];
     let a = answer_line(&mut out, r, opens);
     let n = message_line(&mut out, a, r, space);
-    program_text::say(&out, n);
+    program_text::say(rt, &out, n);
 }
 
 // A sign, and the eight numbers of a row.
-fn row(sign: u8, rows: &[u8], k: u32) {
+fn row(rt: &impl Print, sign: u8, rows: &[u8], k: u32) {
     let mut out = [0u8; 256];
     let a = program_text::put(&mut out, 0, sign);
     let b = program_listing::row(&mut out, a, rows, (k as usize) * 32);
     let n = program_text::put(&mut out, b, b'\n');
-    program_text::say(&out, n);
+    program_text::say(rt, &out, n);
 }
 
 // `r n n n n n n n n`
 
-pub fn row_lines(rows: &[u8], count: u32) {
+pub fn row_lines(rt: &impl Print, rows: &[u8], count: u32) {
     let mut k = 0;
     while k < count {
-        row(b'r', rows, k);
+        row(rt, b'r', rows, k);
         k += 1;
     }
 }
 
 // `= KIND NSTART NLENGTH ISTART ILENGTH RESULT DIAGNOSTIC SOURCE`
-pub fn portion_line(rows: &[u8]) {
-    row(b'=', rows, 0);
+pub fn portion_line(rt: &impl Print, rows: &[u8]) {
+    row(rt, b'=', rows, 0);
 }
 
 // `= START LENGTH OCTETS`
-pub fn parameter_line(s: &[u8], start: usize, count: usize) {
+pub fn parameter_line(rt: &impl Print, s: &[u8], start: usize, count: usize) {
     let p = reading_parameter::parameter_at(s, start, count);
     let mut out = [0u8; 16640];
     let a = program_text::put(&mut out, 0, b'=');
@@ -75,21 +75,21 @@ pub fn parameter_line(s: &[u8], start: usize, count: usize) {
     let d = program_text::put(&mut out, c, b' ');
     let e = program_digits::octets(&mut out, d, reading_parameter::parameter(s, start, count));
     let n = program_text::put(&mut out, e, b'\n');
-    program_text::say(&out, n);
+    program_text::say(rt, &out, n);
 }
 
 // `= COUNT`
-fn count_line(n: u64) {
+fn count_line(rt: &impl Print, n: u64) {
     let mut out = [0u8; 32];
     let a = program_text::put(&mut out, 0, b'=');
     let b = program_digits::spaced(&mut out, a, n);
     let c = program_text::put(&mut out, b, b'\n');
-    program_text::say(&out, c);
+    program_text::say(rt, &out, c);
 }
 
 // That, how many components the reader gives, and a line for each.
-pub fn component_lines(s: &[u8]) {
-    let l = program_listing::components(s, false);
-    count_line(l.count);
-    program_listing::components(s, true);
+pub fn component_lines(rt: &impl Print, s: &[u8]) {
+    let l = program_listing::components(rt, s, false);
+    count_line(rt, l.count);
+    program_listing::components(rt, s, true);
 }

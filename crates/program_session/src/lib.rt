@@ -4,7 +4,14 @@
 mod call;
 mod show;
 
-pub fn play(table: &mut [u8], rows: &mut [u8], space: &mut [u8], line: &mut [u8], number: u64) {
+pub fn play(
+    rt: &impl Print,
+    table: &mut [u8],
+    rows: &mut [u8],
+    space: &mut [u8],
+    line: &mut [u8],
+    number: u64,
+) {
     let p = call::play(table, rows, space, line);
-    show::line(number, p, table, space);
+    show::line(rt, number, p, table, space);
 }

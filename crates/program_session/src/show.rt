@@ -67,12 +67,12 @@ fn write(out: &mut [u8], line: u64, p: Played, table: &[u8], space: &[u8]) -> us
     program_text::put(out, f, b'\n')
 }
 
-pub fn line(number: u64, p: Played, table: &[u8], space: &[u8]) {
+pub fn line(rt: &impl Print, number: u64, p: Played, table: &[u8], space: &[u8]) {
     if p.read {
         let mut out = [0u8; 1024];
         let n = write(&mut out, number, p, table, space);
-        program_text::say(&out, n);
+        program_text::say(rt, &out, n);
         return;
     }
-    program_lines::bad(number, b'\t');
+    program_lines::bad(rt, number, b'\t');
 }

@@ -4,8 +4,6 @@
 ghost use Rattle.std.specs.Prelude.{◌≤◌, min, ◌≡◌, List, [], ◌∷◌, length};
 ghost use Rattle.program_text.specs.Said.{Said};
 
-use libc::STDOUT_FILENO;
-
 // An octet.
 pub fn put(out: &mut [u8], at: usize, x: u8) -> usize
     ensures { Said out.old at (x ∷ []) result out.new }
@@ -31,14 +29,22 @@ pub fn word(out: &mut [u8], at: usize, s: &[u8]) -> usize
     k
 }
 
-// Hands the first n octets of a text to standard output, all where it has fewer: how many those are. What becomes of them no contract can say.
-pub fn say(out: &[u8], n: usize) -> usize
+// Hands a text to standard output. What becomes of it no contract can say, and a write that fails is passed over.
+fn hand(rt: &impl Print, out: &[u8]) {
+    match rt.write_all(out) {
+        Ok(()) => {}
+        Err(_) => {}
+    }
+}
+
+// Hands the first n octets of a text to standard output, all where it has fewer: how many those are.
+pub fn say(rt: &impl Print, out: &[u8], n: usize) -> usize
     ensures { result ≡ min n (length out.now) }
 {
     if n > out.len() {
-        io::write_all(STDOUT_FILENO, out);
+        hand(rt, out);
         return out.len();
     }
-    io::write_all(STDOUT_FILENO, &out[..n]);
+    hand(rt, &out[..n]);
     n
 }

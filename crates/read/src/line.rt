@@ -48,31 +48,31 @@ fn with_digit(octets: &mut [u8], l: Line, d: u8) -> Line
 }
 
 // At its end: what cannot be read as octets is `bad`, and a line without any is passed over.
-pub fn finish(octets: &[u8], l: Line)
+pub fn finish(rt: &impl Print, octets: &[u8], l: Line)
     requires { LineIn (length octets.now) l }
 {
     if l.bad {
-        program_lines::bad(l.number, b' ');
+        program_lines::bad(rt, l.number, b' ');
         return;
     }
     if l.digit < 16 {
-        program_lines::bad(l.number, b' ');
+        program_lines::bad(rt, l.number, b' ');
         return;
     }
     let n = l.count;
     if n > 0 {
-        show::message(l.number, &octets[..n]);
+        show::message(rt, l.number, &octets[..n]);
     }
 }
 
 // The next octet of the text. A line feed ends the line; blanks, tabs and carriage returns are passed over.
-fn taken(octets: &mut [u8], l: Line, x: u8) -> Line
+fn taken(rt: &impl Print, octets: &mut [u8], l: Line, x: u8) -> Line
     requires { LineIn (length octets.old) l }
     ensures { LineIn (length octets.new) result }
 {
     let mut l = l;
     if x == b'\n' {
-        finish(octets, l);
+        finish(rt, octets, l);
         return fresh(std::num::wrapping_add_u64(l.number, 1));
     }
     if l.comment || x == b' ' || x == b'\t' || x == b'\r' {
@@ -90,14 +90,14 @@ fn taken(octets: &mut [u8], l: Line, x: u8) -> Line
     l
 }
 
-pub fn feed(s: &[u8], octets: &mut [u8], l: Line) -> Line
+pub fn feed(rt: &impl Print, s: &[u8], octets: &mut [u8], l: Line) -> Line
     requires { LineIn (length octets.old) l }
     ensures { LineIn (length octets.new) result }
 {
     let mut l = l;
     let mut i = 0;
     while i < s.len() {
-        l = taken(octets, l, s[i]);
+        l = taken(rt, octets, l, s[i]);
         i += 1;
     }
     l

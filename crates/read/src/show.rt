@@ -80,7 +80,7 @@ fn fault_line(out: &mut [u8], at: usize, c: Component) -> usize
 }
 
 // A syntax fault at a position, where the components end at lim.
-fn fault(s: &[u8], lim: usize, at: usize)
+fn fault(rt: &impl Print, s: &[u8], lim: usize, at: usize)
     requires { (length s.now ≤ 512) × (at < 1024) }
 {
     if s.len() < lim {
@@ -89,44 +89,44 @@ fn fault(s: &[u8], lim: usize, at: usize)
     let c = reading_components::component_at(s, lim, at);
     let mut out = [0u8; 256];
     let n = fault_line(&mut out, at, c);
-    program_text::say(&out, n);
+    program_text::say(rt, &out, n);
 }
 
 // Those that the reader gives, and what stands where it ended: nothing after the last one, else a syntax fault. An empty 6C is one.
-fn components(s: &[u8], m: Message)
+fn components(rt: &impl Print, s: &[u8], m: Message)
     requires { (length s.now ≤ 512) × MessageIn (length s.now) m }
 {
     if m.fault != IS_SOUND || m.from == 0 {
         return;
     }
-    let l = program_listing::components(s, true);
+    let l = program_listing::components(rt, s, true);
     if l.last == 0 {
-        fault(s, m.to, m.from);
+        fault(rt, s, m.to, m.from);
         return;
     }
     let lim = l.last / 1024;
     let at = l.last % 1024;
     if at < lim {
-        fault(s, lim, at);
+        fault(rt, s, lim, at);
     }
 }
 
 // One of 0 or over 512 octets.
-fn refused(line: u64) {
+fn refused(rt: &impl Print, line: u64) {
     let mut out = [0u8; 256];
     let a = program_digits::decimal(&mut out, 0, line);
     let n = program_text::word(&mut out, a, b" - refused - - 0 0 -\n");
-    program_text::say(&out, n);
+    program_text::say(rt, &out, n);
 }
 
-pub fn message(line: u64, s: &[u8]) {
+pub fn message(rt: &impl Print, line: u64, s: &[u8]) {
     if s.len() == 0 || s.len() > 512 {
-        refused(line);
+        refused(rt, line);
         return;
     }
     let m = reading_messages::message_of(s);
     let mut out = [0u8; 256];
     let n = message_line(&mut out, line, s, m);
-    program_text::say(&out, n);
-    components(s, m);
+    program_text::say(rt, &out, n);
+    components(rt, s, m);
 }

@@ -6,13 +6,14 @@
 use paper::{LEAST_ROWS, LEAST_SPACE, TABLE_OCTETS};
 use program_play::Player;
 
-fn main() {
+fn main(rt: HostRuntime) {
     let mut buf = [0u8; 65536];
     let mut table = [0u8; TABLE_OCTETS];
     let mut rows = [0u8; LEAST_ROWS];
     let mut space = [0u8; LEAST_SPACE];
     let mut line = [0u8; 16384];
     program_play::lines(
+        &rt,
         Player::Replay,
         &mut buf,
         &mut table,

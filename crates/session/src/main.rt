@@ -8,21 +8,22 @@ use program_play::Player;
 
 // A long line's space is lent as an array: a slice of so many octets would have the prover count them.
 fn lend(
+    rt: &(impl Print + Input),
     buf: &mut [u8],
     table: &mut [u8],
     rows: &mut [u8],
     space: &mut [u8],
     line: &mut [u8; 1048576],
 ) {
-    program_play::lines(Player::Session, buf, table, rows, space, line);
+    program_play::lines(rt, Player::Session, buf, table, rows, space, line);
 }
 
-fn main() {
+fn main(rt: HostRuntime) {
     let mut buf = [0u8; 65536];
     let mut table = [0u8; TABLE_OCTETS];
     let mut rows = [0u8; LEAST_ROWS];
     let mut space = [0u8; LEAST_SPACE];
     let mut line = [0u8; 1048576];
     call_open::fresh(&mut table, &[4u8; 16], &[64u8; 16]);
-    lend(&mut buf, &mut table, &mut rows, &mut space, &mut line);
+    lend(&rt, &mut buf, &mut table, &mut rows, &mut space, &mut line);
 }

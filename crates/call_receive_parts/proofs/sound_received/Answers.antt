@@ -1,0 +1,52 @@
+use native.Mathlib.Omega.{arith}
+use Prim.Native.Nat.{ℕ}
+use mathlib.Core.Path.{refl, sym, ap, ◌∙◌}
+use Rattle.laws.specs.If.{eq, ne, yes, no}
+use Rattle.paper.specs.Calls.{Table, place_at, to_dialogue, sound_received}
+use Rattle.paper.specs.Sizes.{place_of}
+use Rattle.paper.specs.Layout.{view}
+use Rattle.call_receive_parts.specs.Receives.{receives-as, leaves-receives, table-as}
+use Rattle.call_receive_parts.proofs.Laws.{assigned-is, owned-standing}
+use Rattle.call_receive_parts.proofs.sound_received.Goals as goal
+
+pub returns-then-m-eq97 : goal.returns-then-m-eq97
+unfolding sound_received
+returns-then-m-eq97 c =
+    receives-as (eq _ _ _ _ (omega arith) refl) (table-as c.requires.0.ready.same (leaves-receives (c.uni_received-k.ensures (view c.args.t.now))))
+
+pub begin_received-requires : goal.begin_received-requires
+begin_received-requires c =
+    let p = c.requires in
+    (p.0, p.1, p.2, p.3, p.1.lies.begins p.4 (omega arith))
+
+pub returns-then-m-eq98 : goal.returns-then-m-eq98
+unfolding sound_received
+returns-then-m-eq98 c =
+    receives-as (ne _ _ _ _ (λ h. omega arith) (eq _ _ _ _ (omega arith) refl)) c.begin_received.ensures
+
+pub number_at-me-requires : goal.number_at-me-requires
+number_at-me-requires c =
+    let a = c.?.args in
+    let k = assigned-is (view a.t.now) a.service a.s.now a.m (sym c.assigned.ensures ∙ c.if-assigned.true) in
+    omega (arith, k.0, c.?.requires.1.lies.destination.lies)
+
+pub to_dialogue-requires : goal.to_dialogue-requires
+to_dialogue-requires c =
+    let a = c.?.args in
+    let k = assigned-is (view a.t.now) a.service a.s.now a.m (sym c.assigned.ensures ∙ c.if-assigned.true) in
+    (owned-standing a.t.now c.?.requires.0.ready a.service _ _ c.number_at-me.ensures k.1, c.?.requires.1, c.?.requires.2, c.?.requires.3, c.?.requires.4)
+
+pub returns-then-assigned : goal.returns-then-assigned
+unfolding sound_received
+returns-then-assigned c =
+    let a = c.?.args in
+    let T : Table = view a.t.now in
+    receives-as
+    (ap (λ (k : ℕ). to_dialogue T a.service k a.s.now a.m (place_at T (place_of k))) c.number_at-me.ensures
+    ∙ ne _ _ _ _ (λ h. omega arith) (ne _ _ _ _ (λ h. omega arith) (yes _ _ _ (sym c.assigned.ensures ∙ c.if-assigned.true) refl)))
+    c.to_dialogue.ensures
+
+pub returns : goal.returns
+unfolding sound_received
+returns c =
+    receives-as (ne _ _ _ _ (λ h. omega arith) (ne _ _ _ _ (λ h. omega arith) (no _ _ _ (sym c.assigned.ensures ∙ c.if-assigned.false) refl))) c.faulted.ensures

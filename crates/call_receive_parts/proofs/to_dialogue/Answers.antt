@@ -1,0 +1,37 @@
+use native.Mathlib.Omega.{arith}
+use mathlib.Core.Path.{refl}
+use Rattle.laws.specs.If.{eq, ne}
+use Rattle.paper.specs.Calls.{to_dialogue}
+use Rattle.call_receive_parts.specs.Receives.{receives-as, leaves-receives}
+use Rattle.call_receive_parts.proofs.Laws.{drop-receives}
+use Rattle.call_receive_parts.proofs.to_dialogue.Goals as goal
+
+pub returns-then-m-eq101 : goal.returns-then-m-eq101
+unfolding to_dialogue
+returns-then-m-eq101 c =
+    receives-as (eq _ _ _ _ (omega arith) (eq _ _ _ _ (omega arith) refl)) c.faulted.ensures
+
+pub returns-then-state_at-eq-DIALOGUE_RECEIVED : goal.returns-then-state_at-eq-DIALOGUE_RECEIVED
+unfolding to_dialogue
+returns-then-state_at-eq-DIALOGUE_RECEIVED c =
+    receives-as (eq _ _ _ _ (omega arith) (ne _ _ _ _ (λ h. omega arith) refl)) (drop-receives _ _ _ c.?.requires.0.ready)
+
+pub continue_received-n-requires : goal.continue_received-n-requires
+continue_received-n-requires c =
+    let p = c.?.requires in
+    (p.0, p.1, p.2, p.1.lies.continues p.4 (omega arith))
+
+pub returns-then-m-eq101-2 : goal.returns-then-m-eq101-2
+unfolding to_dialogue
+returns-then-m-eq101-2 c =
+    receives-as (ne _ _ _ _ (λ h. omega arith) (eq _ _ _ _ (omega arith) refl)) (leaves-receives c.continue_received-n.ensures)
+
+pub returns-then-m-eq100 : goal.returns-then-m-eq100
+unfolding to_dialogue
+returns-then-m-eq100 c =
+    receives-as (ne _ _ _ _ (λ h. omega arith) (ne _ _ _ _ (λ h. omega arith) (eq _ _ _ _ (omega arith) refl))) (leaves-receives c.end_received-n.ensures)
+
+pub returns : goal.returns
+unfolding to_dialogue
+returns c =
+    receives-as (ne _ _ _ _ (λ h. omega arith) (ne _ _ _ _ (λ h. omega arith) (ne _ _ _ _ (λ h. omega arith) refl))) (leaves-receives c.abort_received-n.ensures)

@@ -1,0 +1,11 @@
+use Rattle.paper.specs.Invocations.{invocation_of}
+use Rattle.paper.specs.declared.Control.{Control}
+use Rattle.paper.specs.declared.Invocation.{Invocation}
+use mathlib.Core.Path.{ap, ◌∙◌}
+use Rattle.call_release.proofs.class_of.Goals as goal
+
+pub returns : goal.returns
+returns c =
+    let load = c.load-c in
+    let invocation-of = c.invocation_of-v in
+    ap (λ (v : Invocation). v.class) invocation-of.ensures ∙ ap (λ (x : Control). (invocation_of x.invocations c.args.id).class) load.ensures

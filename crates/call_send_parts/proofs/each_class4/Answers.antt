@@ -1,0 +1,60 @@
+use mathlib.Core.Path.{sym, ◌∙◌}
+use mathlib.Core.List.{List}
+use Prim.Native.Nat.{ℕ, ◌-◌}
+use native.Mathlib.Omega.{arith}
+use borrow.Author.Tests.{not-true, not-false}
+use Rattle.paper.specs.Dialogues.{of_class4}
+use Rattle.table_laws.specs.Following.{rest-start, rest-fails, rest_end, rest_more}
+use Rattle.call_send_parts.specs.Refused.{class4-at, class4-sound}
+use Rattle.call_send_parts.proofs.each_class4.Goals as goal
+
+pub loop-c-init : goal.loop-c-init
+loop-c-init c =
+    rest-start (of_class4 c.args.c) c.args.w.now
+
+pub returns-then-not-of_class4 : goal.returns-then-not-of_class4
+returns-then-not-of_class4 c =
+    let loop = c.loop-c in
+    let component-at = c.component_at-k in
+    let of-class4 = c.of_class4 in
+    let if1 = c.if-not-of_class4 in
+    let w : List ℕ = c.args.w.now in
+    let k = component-at.result in
+    let is = class4-at c.args.c k loop.at in
+    rest-fails (of_class4 c.args.c) w loop.at loop.invariant k component-at.ensures.0 (is ∙ sym of-class4.ensures ∙ not-true _ if1.true)
+
+pub returns-then-at-n : goal.returns-then-at-n
+returns-then-at-n c =
+    let loop = c.loop-c in
+    let component-at = c.component_at-k in
+    let of-class4 = c.of_class4 in
+    let if1 = c.if-not-of_class4 in
+    let w : List ℕ = c.args.w.now in
+    let k = component-at.result in
+    let is = class4-at c.args.c k loop.at in
+    let y = sym of-class4.ensures ∙ not-false _ if1.false in
+    let s = class4-sound c.args.c k y in
+    rest_end (of_class4 c.args.c) w loop.at loop.invariant k component-at.ensures.0 (is ∙ y) s (omega arith)
+
+pub loop-c-smaller : goal.loop-c-smaller
+loop-c-smaller c =
+    let component-at = c.component_at-k in
+    let of-class4 = c.of_class4 in
+    let if1 = c.if-not-of_class4 in
+    let k = component-at.result in
+    let y = sym of-class4.ensures ∙ not-false _ if1.false in
+    let s = class4-sound c.args.c k y in
+    omega (arith, component-at.ensures.1.long s)
+
+pub loop-c-preserved : goal.loop-c-preserved
+loop-c-preserved c =
+    let loop = c.loop-c in
+    let component-at = c.component_at-k in
+    let of-class4 = c.of_class4 in
+    let if1 = c.if-not-of_class4 in
+    let w : List ℕ = c.args.w.now in
+    let k = component-at.result in
+    let is = class4-at c.args.c k loop.at in
+    let y = sym of-class4.ensures ∙ not-false _ if1.false in
+    let s = class4-sound c.args.c k y in
+    rest_more (of_class4 c.args.c) w loop.at loop.invariant k component-at.ensures.0 (is ∙ y) s (omega arith) (omega (arith, component-at.ensures.1.long s))

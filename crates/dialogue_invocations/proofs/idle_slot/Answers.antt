@@ -1,0 +1,29 @@
+use native.Mathlib.Omega.{arith}
+use mathlib.Core.Path.{◌≡◌, sym, ap, ◌∙◌}
+use Prim.Native.Nat.{ℕ, ◌-◌}
+use lib.ListN.{length, drop}
+use native.Mathlib.Numerals.{add-one}
+use Rattle.laws.specs.Lists.{first_at, first-hit, first-miss, first-none}
+use Rattle.paper.specs.Invocations.{is_idle, idle_slot, no_invocation}
+use Rattle.dialogue_invocations.proofs.idle_slot.Goals as goal
+
+pub loop-i-init : goal.loop-i-init
+unfolding idle_slot
+loop-i-init c =
+    (omega arith, omega arith)
+
+pub returns-then-is_idle : goal.returns-then-is_idle
+returns-then-is_idle c =
+    let n : length c.args.l ≡ 8 = c.well_formed.0.1.0.1 in
+    record { is = omega (arith, c.loop-i.invariant.1, first-hit is_idle no_invocation c.args.l c.loop-i.i (omega arith) (sym c.is_idle.ensures ∙ c.if-is_idle.true)); within = omega arith }
+
+pub loop-i-preserved : goal.loop-i-preserved
+loop-i-preserved c =
+    let n : length c.args.l ≡ 8 = c.well_formed.0.1.0.1 in
+    let m = first-miss is_idle no_invocation c.args.l c.loop-i.i (omega arith) (sym c.is_idle.ensures ∙ c.if-is_idle.false) in
+    (omega arith, omega (arith, c.loop-i.invariant.1, m, ap (λ (k : ℕ). first_at is_idle (drop k c.args.l)) (add-one c.loop-i.i)))
+
+pub returns : goal.returns
+returns c =
+    let n : length c.args.l ≡ 8 = c.well_formed.0.1.0.1 in
+    record { is = omega (arith, c.loop-i.invariant.1, first-none is_idle no_invocation c.args.l c.loop-i.i (omega arith)); within = omega arith }

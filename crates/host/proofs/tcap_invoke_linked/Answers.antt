@@ -1,0 +1,12 @@
+use Prim.Native.Nat.{ℕ}
+use Rattle.paper.specs.Sizes.{octet_of}
+use Rattle.paper.specs.Dialogues.Request.{Invoke}
+use Rattle.paper.specs.Calls.Call.{OnDialogue}
+use Rattle.host.proofs.Octet.{of-octet}
+use Rattle.host.proofs.tcap_invoke_linked.Goals as goal
+
+pub returns : goal.returns
+returns c =
+    let other = c.octet_of-other in
+    of-octet _ (λ (o : ℕ). OnDialogue c.args.service c.args.dialogue (Invoke (octet_of c.args.id) o c.args.class c.args.operation.now c.args.parameter.now)) c.args.linked c.ranges.linked other.ensures
+    (of-octet _ (λ (o : ℕ). OnDialogue c.args.service c.args.dialogue (Invoke o other.result c.args.class c.args.operation.now c.args.parameter.now)) c.args.id c.ranges.id c.octet_of-octet.ensures c.pass.ensures)

@@ -1,0 +1,9 @@
+use Prim.Native.Nat.{ℕ}
+use Rattle.paper.specs.Dialogues.Request.{UserReject}
+use Rattle.paper.specs.Calls.Call.{OnDialogue}
+use Rattle.host.proofs.Octet.{of-octet}
+use Rattle.host.proofs.tcap_reject.Goals as goal
+
+pub returns : goal.returns
+returns c =
+    of-octet _ (λ (o : ℕ). OnDialogue c.args.service c.args.dialogue (UserReject o c.args.problem)) c.args.id c.ranges.id c.octet_of-octet.ensures c.pass.ensures

@@ -1,0 +1,14 @@
+use native.Mathlib.Omega.{arith}
+use mathlib.Core.Path.{refl}
+use Rattle.reading_portion.specs.Bounds.{none_in}
+use Rattle.reading_portion.specs.Steps.{only-by, only_none}
+use Rattle.reading_portion.proofs.only.Goals as goal
+
+pub returns-then-f-e : goal.returns-then-f-e
+returns-then-f-e c =
+    let t = c.tagged-f.ensures in
+    record { is = only-by _ _ _ _ _ _ t.0 (omega arith); within = t.1 }
+
+pub returns : goal.returns
+returns c =
+    record { is = only_none _ _ _ _ _ _ c.tagged-f.ensures.is (λ h. omega arith); within = none_in _ _ _ refl }

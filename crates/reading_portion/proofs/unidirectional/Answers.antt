@@ -1,0 +1,16 @@
+use native.Mathlib.Omega.{arith}
+use mathlib.Core.Path.{refl}
+use Rattle.laws.specs.If.{eq, ne}
+use Rattle.paper.specs.Portions.{audt}
+use Rattle.reading_portion.specs.Steps.{in-form}
+use Rattle.reading_portion.proofs.unidirectional.Goals as goal
+
+pub returns-then-w-pdu : goal.returns-then-w-pdu
+returns-then-w-pdu c =
+    let w = c.request_pieces-w in
+    in-form audt _ c.args.pdu w.result _ w.ensures (ne _ _ _ _ (λ h. omega arith) refl)
+
+pub returns : goal.returns
+returns c =
+    let w = c.request_pieces-w in
+    in-form audt _ c.args.pdu w.result _ w.ensures (eq _ _ _ _ (omega arith) refl)

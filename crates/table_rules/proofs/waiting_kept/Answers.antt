@@ -1,0 +1,51 @@
+use Rattle.table_rules.proofs.Laws.{sound-item, some-wait}
+use Rattle.table_laws.specs.Following.{rest-start, rest-fails, rest_end, rest_more}
+use borrow.Author.Tests.{eq-eqb, ne_eqb}
+use Rattle.paper.specs.Components.{no_fault, waiting_items}
+use Rattle.paper.specs.Rules.{is_sound_item, waiting_kept}
+use Rattle.laws.specs.If.{eq}
+use Rattle.laws.specs.Lists.{every}
+use Prim.Native.Nat.{ℕ, ◌-◌}
+use mathlib.Core.List.{List}
+use mathlib.Core.Bool.{true, false}
+use mathlib.Core.Path.{refl, ap, ◌∙◌}
+use native.Mathlib.Omega.{arith}
+use Rattle.table_rules.proofs.waiting_kept.Goals as goal
+
+pub returns-then-n-eq0 : goal.returns-then-n-eq0
+unfolding waiting_kept waiting_items every
+returns-then-n-eq0 c =
+    ap (every is_sound_item) (eq _ _ _ _ (omega arith) refl)
+
+pub loop-c-init : goal.loop-c-init
+loop-c-init c =
+    (omega arith, rest-start is_sound_item c.args.w.now)
+
+pub returns-then-c-ne-NO_FAULT : goal.returns-then-c-ne-NO_FAULT
+returns-then-c-ne-NO_FAULT c =
+    let w : List ℕ = c.args.w.now in
+    let r = c.component_at-c.ensures in
+    let k = c.component_at-c.result in
+    rest-fails is_sound_item w c.loop-c.at c.loop-c.invariant.1 k r.0 (sound-item c.loop-c.at k false (ne_eqb k.fault no_fault c.if-c-ne-NO_FAULT.true)) ∙ some-wait w (λ h. omega arith)
+
+pub returns-then-at-n : goal.returns-then-at-n
+returns-then-at-n c =
+    let w : List ℕ = c.args.w.now in
+    let r = c.component_at-c.ensures in
+    let k = c.component_at-c.result in
+    let s = c.if-c-ne-NO_FAULT.false in
+    rest_end is_sound_item w c.loop-c.at c.loop-c.invariant.1 k r.0 (sound-item c.loop-c.at k true (eq-eqb k.fault no_fault s)) s (omega arith) ∙ some-wait w (λ h. omega arith)
+
+pub loop-c-smaller : goal.loop-c-smaller
+loop-c-smaller c =
+    let w : List ℕ = c.args.w.now in
+    let r = c.component_at-c.ensures in
+    omega (arith, r.1.long c.if-c-ne-NO_FAULT.false)
+
+pub loop-c-preserved : goal.loop-c-preserved
+loop-c-preserved c =
+    let w : List ℕ = c.args.w.now in
+    let r = c.component_at-c.ensures in
+    let k = c.component_at-c.result in
+    let s = c.if-c-ne-NO_FAULT.false in
+    (omega arith, rest_more is_sound_item w c.loop-c.at c.loop-c.invariant.1 k r.0 (sound-item c.loop-c.at k true (eq-eqb k.fault no_fault s)) s (omega arith) (omega (arith, r.1.long s)))

@@ -1,0 +1,30 @@
+use native.Mathlib.Omega.{arith}
+use mathlib.Core.Path.{refl, ◌∙◌, ap}
+use Prim.Native.Nat.{ℕ, ◌+◌}
+use Rattle.laws.specs.Runs.{wrote-more, wrote_as}
+use Rattle.writing_octets.specs.Lengths.{element_size, short-size, element-of, none-size, both-size, result-none, result-both}
+use Rattle.writing_components.proofs.write_result.Goals as goal
+
+pub write_head-a-requires : goal.write_head-a-requires
+write_head-a-requires c =
+    omega (arith, short-size 3 (omega arith), none-size c.args.op.now c.args.par.now c.if-op-eq0.true)
+
+pub write_single-requires : goal.write_single-requires
+write_single-requires c =
+    omega (arith, short-size 3 (omega arith), none-size c.args.op.now c.args.par.now c.if-op-eq0.true)
+
+pub returns-then-op-eq0 : goal.returns-then-op-eq0
+returns-then-op-eq0 c =
+    record { is = wrote_as (wrote-more c.write_head-a.ensures refl c.write_single.ensures) (element-of _ _ _ refl ∙ result-none _ _ _ _ c.if-op-eq0.true); within = omega (arith, short-size 3 (omega arith), none-size c.args.op.now c.args.par.now c.if-op-eq0.true) }
+
+pub element_size-m-requires : goal.element_size-m-requires
+element_size-m-requires c =
+    omega (arith, both-size c.args.op.now c.args.par.now c.if-op-eq0.false)
+
+pub write_both-requires : goal.write_both-requires
+write_both-requires c =
+    (c.element_size-m.ensures.is, omega (arith, both-size c.args.op.now c.args.par.now c.if-op-eq0.false, ap (λ (k : ℕ). element_size (3 + k)) c.element_size-m.ensures.is))
+
+pub returns : goal.returns
+returns c =
+    record { is = wrote_as c.write_both.ensures.is (result-both _ _ _ _ c.if-op-eq0.false); within = omega (arith, both-size c.args.op.now c.args.par.now c.if-op-eq0.false, ap (λ (k : ℕ). element_size (3 + k)) c.element_size-m.ensures.is) }

@@ -1,0 +1,13 @@
+use Rattle.paper.specs.Rows.{start_of}
+use Rattle.laws.specs.Picks.{picks}
+use Rattle.writing_rows.proofs.start_of.Goals as goal
+
+pub returns-then-at-x : goal.returns-then-at-x
+unfolding start_of
+returns-then-at-x c =
+    search picks
+
+pub returns : goal.returns
+unfolding start_of
+returns c =
+    search picks
