@@ -288,8 +288,8 @@ taking_all (k ∷ ks) p q = taking_all ks p (taking k p q)
 pub pieces-parts : {l : List ℕ} {e at : ℕ} (ks : List Piece) (p : Parts) → Upto l e at (pieces_octets ks p) → AllFormed ks p → Elements l 12 e at
 unfolding pieces_octets
 pieces-parts {l} {e} {at} [] p u is = let z : at ≡ e = omega (arith, u.whole) in done z
-pieces-parts (k ∷ ks) p u is =
-    piece-parts k p (pieces_octets ks p) u is.0 (pieces-parts ks p (upto_rest (piece_octets k p) (pieces_octets ks p) u) is.1)
+pieces-parts {l} {e} {at} (k ∷ ks) p u is =
+    piece-parts k p (pieces_octets ks p) u is.0 (pieces-parts {at = at + length (piece_octets k p)} ks p (upto_rest (piece_octets k p) (pieces_octets ks p) u) is.1)
 
 pub pieces-took : {l : List ℕ} {e : ℕ} (ks : List Piece) (p : Parts) (w : Pdu) → Upto l e w.at (pieces_octets ks p) → AllFormed ks p → AllTold ks p
     → ((all_pieces l e w ks).at ≡ e) × (taking_all ks p (seen l w) ≡ seen l (all_pieces l e w ks))

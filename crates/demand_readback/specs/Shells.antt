@@ -18,7 +18,7 @@ use Rattle.demand_readback.specs.Upto.{Upto, upto_rest, upto-stands, around, onl
 pub stands-yes : {l : List ℕ} {p : ℕ} (e : ℕ) (vs : List ℕ) → Has l p vs → p + length vs ≤ e → true ≡ stands_at l e p vs
 unfolding stands_at
 stands-yes e [] has room = refl
-stands-yes e (v ∷ vs) has room = lt _ _ _ _ (omega arith) (eq _ _ _ _ (has-head has) (stands-yes e vs (has-tail has) (omega arith)))
+stands-yes {l} {p} e (v ∷ vs) has room = lt _ _ _ _ (omega arith) (eq _ _ _ _ (has-head has) (stands-yes {p = p + 1} e vs (has-tail has) (omega arith)))
 
 pub stands-no : (l : List ℕ) (e p : ℕ) (vs : List ℕ) (i : ℕ) → i < length vs → (get_or l (p + i) 0 ≡ get_or vs i 0 → ⊥) → false ≡ stands_at l e p vs
 unfolding stands_at

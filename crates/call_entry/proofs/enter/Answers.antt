@@ -14,14 +14,12 @@ returns-then-lent-least-2 c =
 
 pub returns-then-answer-ne0 : goal.returns-then-answer-ne0
 returns-then-answer-ne0 c =
-    let check = c.check-c in
-    enters-no c.args.t.now _ _ c.args.service check.result.answer _ (table-no _ (spaces c.args.lent) (spaces c.args.least) _ (omega arith) (omega arith) _ check.ensures.is (omega arith)) (omega arith)
+    enters-no c.args.t.now _ _ c.args.service c.check-c.result.answer _ (table-no _ (spaces c.args.lent) (spaces c.args.least) _ (omega arith) (omega arith) _ c.check-c.ensures.is (omega arith)) (omega arith)
 
 pub returns-then-i-ge-SERVICES : goal.returns-then-i-ge-SERVICES
 returns-then-i-ge-SERVICES c =
-    let check = c.check-c in
-    let z : 0 ≡ check.result.answer = omega arith in
-    enters-no c.args.t.now _ _ c.args.service 3 _ (service-no _ (spaces c.args.lent) (spaces c.args.least) _ (omega arith) (omega arith) (z ∙ check.ensures.is) (omega arith)) (omega arith)
+    let z : 0 ≡ c.check-c.result.answer = omega arith in
+    enters-no c.args.t.now _ _ c.args.service 3 _ (service-no _ (spaces c.args.lent) (spaces c.args.least) _ (omega arith) (omega arith) (z ∙ c.check-c.ensures.is) (omega arith)) (omega arith)
 
 pub slice_bounds-share_at-end : goal.slice_bounds-share_at-end
 slice_bounds-share_at-end c =
@@ -36,7 +34,6 @@ slice_bounds-share_at-end-2 c =
 pub returns : goal.returns
 unfolding view
 returns c =
-    let check = c.check-c in
-    let z : check.result.answer ≡ 0 = omega arith in
-    enters c.args.t.now (spaces c.args.lent) (spaces c.args.least) c.args.service (omega arith) (omega arith) check.result.counts check.result.unused check.result.free (sym z ∙ check.ensures.is)
-    (check.ensures.fine z) (omega arith) c.gives_place-may.result _ _ _ c.number-count.ensures.0 c.share_at-share.ensures.0 c.share_at-share.ensures.1 c.gives_place-may.ensures
+    let z : c.check-c.result.answer ≡ 0 = omega arith in
+    enters c.args.t.now (spaces c.args.lent) (spaces c.args.least) c.args.service (omega arith) (omega arith) c.check-c.result.counts c.check-c.result.unused c.check-c.result.free (sym z ∙ c.check-c.ensures.is)
+    (c.check-c.ensures.fine z) (omega arith) c.gives_place-may.result _ _ _ c.number-count.ensures.0 c.share_at-share.ensures.0 c.share_at-share.ensures.1 c.gives_place-may.ensures

@@ -13,12 +13,9 @@ returns-then-l-eq0 c =
 pub returns-then-l : goal.returns-then-l
 unfolding is_block
 returns-then-l c =
-    let if2 = c.if-l in
-    ne _ _ _ _ if2.true refl
+    ne _ _ _ _ c.if-l.true refl
 
 pub returns : goal.returns
 unfolding is_block
 returns c =
-    let if2 = c.if-l in
-    let is-element = c.is_element in
-    eq _ _ _ _ if2.false is-element.ensures
+    eq _ _ _ _ c.if-l.false c.is_element.ensures

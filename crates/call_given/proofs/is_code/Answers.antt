@@ -9,12 +9,9 @@ use Rattle.call_given.proofs.is_code.Goals as goal
 pub returns-then-n-eq0 : goal.returns-then-n-eq0
 unfolding is_code
 returns-then-n-eq0 c =
-    let if1 = c.if-n-eq0 in
-    eq _ _ _ _ if1.true refl
+    eq _ _ _ _ c.if-n-eq0.true refl
 
 pub returns : goal.returns
 unfolding is_code
 returns c =
-    let if1 = c.if-n-eq0 in
-    let code-end = c.code_end in
-    ne _ _ _ _ if1.false (ap (λ (n : ℕ). eqb n (length c.args.l.now)) code-end.ensures)
+    ne _ _ _ _ c.if-n-eq0.false (ap (λ (n : ℕ). eqb n (length c.args.l.now)) c.code_end.ensures)

@@ -7,8 +7,7 @@ use Rattle.call_given.proofs.is_information.Goals as goal
 pub returns-then-l-gt0 : goal.returns-then-l-gt0
 unfolding is_information
 returns-then-l-gt0 c =
-    let is_Block = c.is_block in
-    ne _ _ _ _ (λ h. omega arith) is_Block.ensures
+    ne _ _ _ _ (λ h. omega arith) c.is_block.ensures
 
 pub returns : goal.returns
 unfolding is_information

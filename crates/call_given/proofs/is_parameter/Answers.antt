@@ -6,12 +6,9 @@ use Rattle.call_given.proofs.is_parameter.Goals as goal
 pub returns-then-l-eq0 : goal.returns-then-l-eq0
 unfolding is_parameter
 returns-then-l-eq0 c =
-    let if1 = c.if-l-eq0 in
-    eq _ _ _ _ if1.true refl
+    eq _ _ _ _ c.if-l-eq0.true refl
 
 pub returns : goal.returns
 unfolding is_parameter
 returns c =
-    let if1 = c.if-l-eq0 in
-    let is-element = c.is_element in
-    ne _ _ _ _ if1.false is-element.ensures
+    ne _ _ _ _ c.if-l-eq0.false c.is_element.ensures

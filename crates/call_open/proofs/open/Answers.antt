@@ -11,75 +11,37 @@ use Rattle.call_open.proofs.open.Goals as goal
 
 pub returns-then-answer-ne0 : goal.returns-then-answer-ne0
 returns-then-answer-ne0 c =
-    let args = c.?.args in
-    let enter = c.enter-e in
-    let refused = c.refused in
-    open-refused args.table.now args.service enter.result.answer enter.ensures.is (omega arith) refused.ensures
+    open-refused c.args.table.now c.args.service c.enter-e.result.answer c.enter-e.ensures.is (omega arith) c.refused.ensures
 
 pub lowest_place-p-requires : goal.lowest_place-p-requires
 lowest_place-p-requires c =
-    let enter = c.enter-e in
-    let if1 = c.if-answer-ne0 in
-    (enter.ensures.inside if1.false).ready
+    (c.enter-e.ensures.inside c.if-answer-ne0.false).ready
 
 pub id_at-id-requires : goal.id_at-id-requires
 id_at-id-requires c =
-    let args = c.?.before.before.args in
-    let enter = c.enter-e in
-    let if1 = c.if-answer-ne0 in
-    let if2 = c.if-may in
-    let lowest-place = c.lowest_place-p in
-    let i = enter.ensures.inside if1.false in
-    ((open-there args.table.now args.service i (sym (enter.ensures.may if1.false) ∙ if2.true) lowest-place.result lowest-place.ensures.0).0, i.ready.long)
+    let i = c.enter-e.ensures.inside c.if-answer-ne0.false in
+    ((open-there c.args.table.now c.args.service i (sym (c.enter-e.ensures.may c.if-answer-ne0.false) ∙ c.if-may.true) c.lowest_place-p.result c.lowest_place-p.ensures.0).0, i.ready.long)
 
 pub turn_at-turn-requires : goal.turn_at-turn-requires
 turn_at-turn-requires c =
-    let args = c.?.before.before.before.args in
-    let enter = c.?.enter in
-    let if1 = c.if-answer-ne0 in
-    let if2 = c.if-may in
-    let lowest-place = c.lowest_place-p in
-    let i = enter.ensures.inside if1.false in
-    ((open-there args.table.now args.service i (sym (enter.ensures.may if1.false) ∙ if2.true) lowest-place.result lowest-place.ensures.0).0, i.ready.long)
+    let i = c.enter-e.ensures.inside c.if-answer-ne0.false in
+    ((open-there c.args.table.now c.args.service i (sym (c.enter-e.ensures.may c.if-answer-ne0.false) ∙ c.if-may.true) c.lowest_place-p.result c.lowest_place-p.ensures.0).0, i.ready.long)
 
 pub overflow_cast-service : goal.overflow_cast-service
 overflow_cast-service c =
-    let enter = c.?.enter in
-    let if1 = c.if-answer-ne0 in
-    omega (arith, (enter.ensures.inside if1.false).within.service)
+    omega (arith, (c.enter-e.ensures.inside c.if-answer-ne0.false).within.service)
 
 pub begin_at-requires : goal.begin_at-requires
 begin_at-requires c =
-    let args = c.?.before.before.before.args in
-    let enter = c.?.enter in
-    let if1 = c.if-answer-ne0 in
-    let if2 = c.if-may in
-    let lowest-place = c.lowest_place-p in
-    let turn_at = c.turn_at-turn in
-    let begun = c.begun-c in
-    subst (Storing 1 args.table.now lowest-place.result) (sym begun.ensures)
-    (open-storing args.table.now args.service (enter.ensures.inside if1.false) (sym (enter.ensures.may if1.false) ∙ if2.true) lowest-place.result lowest-place.ensures.0 turn_at.result turn_at.ensures.1)
+    subst (Storing 1 c.args.table.now c.lowest_place-p.result) (sym c.begun-c.ensures)
+    (open-storing c.args.table.now c.args.service (c.enter-e.ensures.inside c.if-answer-ne0.false) (sym (c.enter-e.ensures.may c.if-answer-ne0.false) ∙ c.if-may.true) c.lowest_place-p.result c.lowest_place-p.ensures.0 c.turn_at-turn.result c.turn_at-turn.ensures.1)
 
 pub returns-then-may : goal.returns-then-may
 returns-then-may c =
-    let args = c.?.before.before.before.args in
-    let enter = c.?.enter in
-    let if1 = c.if-answer-ne0 in
-    let if2 = c.if-may in
-    let lowest-place = c.lowest_place-p in
-    let id-at = c.id_at-id in
-    let turn_at = c.turn_at-turn in
-    let begun = c.begun-c in
-    let begin-at = c.begin_at in
-    open_done args.table.now args.service (enter.ensures.inside if1.false) (sym (enter.ensures.may if1.false) ∙ if2.true) lowest-place.result lowest-place.ensures.0
-    id-at.result turn_at.result begin-at.new.0 id-at.ensures turn_at.ensures.0
-    (begin-at.ensures ∙ ap (λ (x : Control). encode (with_place (view args.table.now) lowest-place.result (with_waiting x []))) begun.ensures) refl
+    open_done c.args.table.now c.args.service (c.enter-e.ensures.inside c.if-answer-ne0.false) (sym (c.enter-e.ensures.may c.if-answer-ne0.false) ∙ c.if-may.true) c.lowest_place-p.result c.lowest_place-p.ensures.0
+    c.id_at-id.result c.turn_at-turn.result c.begin_at.new.t c.id_at-id.ensures c.turn_at-turn.ensures.0
+    (c.begin_at.ensures ∙ ap (λ (x : Control). encode (with_place (view c.args.table.now) c.lowest_place-p.result (with_waiting x []))) c.begun-c.ensures) refl
 
 pub returns : goal.returns
 returns c =
-    let args = c.?.args in
-    let enter = c.enter-e in
-    let if1 = c.if-answer-ne0 in
-    let if2 = c.if-may in
-    let refused2 = c.refused-2 in
-    open_no args.table.now args.service (enter.ensures.inside if1.false) (sym (enter.ensures.may if1.false) ∙ if2.false) refused2.ensures
+    open_no c.args.table.now c.args.service (c.enter-e.ensures.inside c.if-answer-ne0.false) (sym (c.enter-e.ensures.may c.if-answer-ne0.false) ∙ c.if-may.false) c.refused-2.ensures

@@ -12,20 +12,16 @@ rejected_by-requires c =
 
 pub returns-in-AnInvoke : goal.returns-in-AnInvoke
 returns-in-AnInvoke c =
-    let o = c.invoked.ensures in
-    record { slot = o.slot; is = o.is ∙ ap (invocations_after c.args.l) (sym c.in-AnInvoke.is) }
+    record { slot = c.invoked.ensures.slot; is = c.invoked.ensures.is ∙ ap (invocations_after c.args.l) (sym c.in-AnInvoke.is) }
 
 pub returns-in-AResult : goal.returns-in-AResult
 returns-in-AResult c =
-    let o = c.unchanged.ensures in
-    record { slot = o.slot; is = o.is ∙ ap (invocations_after c.args.l) (sym c.in-AResult.is) }
+    record { slot = c.unchanged.ensures.slot; is = c.unchanged.ensures.is ∙ ap (invocations_after c.args.l) (sym c.in-AResult.is) }
 
 pub returns-in-AnError : goal.returns-in-AnError
 returns-in-AnError c =
-    let o = c.unchanged-in-AnError.ensures in
-    record { slot = o.slot; is = o.is ∙ ap (invocations_after c.args.l) (sym c.in-AnError.is) }
+    record { slot = c.unchanged-in-AnError.ensures.slot; is = c.unchanged-in-AnError.ensures.is ∙ ap (invocations_after c.args.l) (sym c.in-AnError.is) }
 
 pub returns-in-AReject : goal.returns-in-AReject
 returns-in-AReject c =
-    let o = c.rejected_by.ensures in
-    record { slot = o.slot; is = o.is ∙ ap (invocations_after c.args.l) (sym c.in-AReject.is) }
+    record { slot = c.rejected_by.ensures.slot; is = c.rejected_by.ensures.is ∙ ap (invocations_after c.args.l) (sym c.in-AReject.is) }

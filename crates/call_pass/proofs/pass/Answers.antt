@@ -13,141 +13,73 @@ use Rattle.call_pass.proofs.pass.Goals as goal
 
 pub returns-then-answer-ne0 : goal.returns-then-answer-ne0
 returns-then-answer-ne0 c =
-    let args = c.?.args in
-    let enter-at = c.enter_at-m in
-    let refused = c.refused in
-    let m = meets-as (passing-spaces args.code.now args.parameter.now args.what) enter-at.ensures in
-    dialogue-refused (only args.table.now) args.service args.dialogue (passing args.what args.code.now args.parameter.now) enter-at.result.answer m.is (omega arith) refused.ensures
+    let m = meets-as (passing-spaces c.args.code.now c.args.parameter.now c.args.what) c.enter_at-m.ensures in
+    dialogue-refused (only c.args.table.now) c.args.service c.args.dialogue (passing c.args.what c.args.code.now c.args.parameter.now) c.enter_at-m.result.answer m.is (omega arith) c.refused.ensures
 
 pub load-c-requires : goal.load-c-requires
 load-c-requires c =
-    let enter-at = c.enter_at-m in
-    let if1 = c.if-answer-ne0 in
-    let u = (enter-at.ensures.inside if1.false).used in
+    let u = (c.enter_at-m.ensures.inside c.if-answer-ne0.false).used in
     (u.small, u.ready.long)
 
 pub waiting_length-n-requires : goal.waiting_length-n-requires
 waiting_length-n-requires c =
-    let enter-at = c.enter_at-m in
-    let if1 = c.if-answer-ne0 in
-    let u = (enter-at.ensures.inside if1.false).used in
+    let u = (c.enter_at-m.ensures.inside c.if-answer-ne0.false).used in
     (u.ready, u.small)
 
 pub returns-then-why-ne0 : goal.returns-then-why-ne0
 returns-then-why-ne0 c =
-    let args = c.?.before.before.args in
-    let enter-at = c.enter_at-m in
-    let if1 = c.if-answer-ne0 in
-    let load = c.load-c in
-    let waiting-length = c.waiting_length-n in
-    let refusal = c.refusal-why in
-    let if2 = c.if-why-ne0 in
-    let refused2 = c.refused-then-why-ne0 in
-    let m = meets-as (passing-spaces args.code.now args.parameter.now args.what) enter-at.ensures in
-    let x = place_at (view args.table.now) enter-at.result.place in
-    dialogue-no (only args.table.now) args.service args.dialogue (passing args.what args.code.now args.parameter.now) enter-at.result.place (m.inside if1.false)
-    refusal.result (refusal.ensures x (sym (ap (λ (k : Control). k.state) load.ensures)) (sym (ap (λ (k : Control). k.invocations) load.ensures)) (sym waiting-length.ensures.0)) (omega (arith, if2)) refused2.ensures
+    let m = meets-as (passing-spaces c.args.code.now c.args.parameter.now c.args.what) c.enter_at-m.ensures in
+    let x = place_at (view c.args.table.now) c.enter_at-m.result.place in
+    dialogue-no (only c.args.table.now) c.args.service c.args.dialogue (passing c.args.what c.args.code.now c.args.parameter.now) c.enter_at-m.result.place (m.inside c.if-answer-ne0.false)
+    c.refusal-why.result (c.refusal-why.ensures x (sym (ap (λ (k : Control). k.state) c.load-c.ensures)) (sym (ap (λ (k : Control). k.invocations) c.load-c.ensures)) (sym c.waiting_length-n.ensures.0)) (omega (arith, c.if-why-ne0)) c.refused-then-why-ne0.ensures
 
 pub acted-s-requires : goal.acted-s-requires
 acted-s-requires c =
-    let args = c.?.before.before.args in
-    let enter-at = c.enter_at-m in
-    let if1 = c.if-answer-ne0 in
-    let load = c.load-c in
-    let waiting-length = c.waiting_length-n in
-    let refusal = c.refusal-why in
-    let if2 = c.if-why-ne0 in
-    let x = place_at (view args.table.now) enter-at.result.place in
-    subst (λ (k : Control). Acts k.invocations args.what) (sym load.ensures) (acts args.code.now args.parameter.now x args.what (enter-at.ensures.inside if1.false).used.fine.control.eight (sym if2.false ∙ refusal.ensures x (sym (ap (λ (k : Control). k.state) load.ensures)) (sym (ap (λ (k : Control). k.invocations) load.ensures)) (sym waiting-length.ensures.0)))
+    let x = place_at (view c.args.table.now) c.enter_at-m.result.place in
+    subst (λ (k : Control). Acts k.invocations c.args.what) (sym c.load-c.ensures) (acts c.args.code.now c.args.parameter.now x c.args.what (c.enter_at-m.ensures.inside c.if-answer-ne0.false).used.fine.control.eight (sym c.if-why-ne0.false ∙ c.refusal-why.ensures x (sym (ap (λ (k : Control). k.state) c.load-c.ensures)) (sym (ap (λ (k : Control). k.invocations) c.load-c.ensures)) (sym c.waiting_length-n.ensures.0)))
 
 pub overflow_mul-a : goal.overflow_mul-a
 overflow_mul-a c =
-    let enter-at = c.enter_at-m in
-    let if1 = c.if-answer-ne0 in
-    omega (arith, (enter-at.ensures.inside if1.false).used.small)
+    omega (arith, (c.enter_at-m.ensures.inside c.if-answer-ne0.false).used.small)
 
 pub overflow_add-a : goal.overflow_add-a
 overflow_add-a c =
-    let enter-at = c.enter_at-m in
-    let if1 = c.if-answer-ne0 in
-    omega (arith, (enter-at.ensures.inside if1.false).used.small)
+    omega (arith, (c.enter_at-m.ensures.inside c.if-answer-ne0.false).used.small)
 
 pub overflow_add-a-2 : goal.overflow_add-a-2
 overflow_add-a-2 c =
-    let enter-at = c.enter_at-m in
-    let if1 = c.if-answer-ne0 in
-    let waiting-length = c.waiting_length-n in
-    omega (arith, (enter-at.ensures.inside if1.false).used.small, waiting-length.ensures.1)
+    omega (arith, (c.enter_at-m.ensures.inside c.if-answer-ne0.false).used.small, c.waiting_length-n.ensures.1)
 
 pub write-e-requires : goal.write-e-requires
 write-e-requires c =
-    let args = c.?.before.before.args in
-    let pre = c.?.before.before.requires in
-    let enter-at = c.enter_at-m in
-    let if1 = c.if-answer-ne0 in
-    let load = c.load-c in
-    let waiting-length = c.waiting_length-n in
-    let refusal = c.refusal-why in
-    let if2 = c.if-why-ne0 in
-    let acted = c.acted-s in
-    let x = place_at (view args.table.now) enter-at.result.place in
-    let e = sym if2.false ∙ refusal.ensures x (sym (ap (λ (k : Control). k.state) load.ensures)) (sym (ap (λ (k : Control). k.invocations) load.ensures)) (sym waiting-length.ensures.0) in
-    let s = appends args.code.now args.parameter.now args.what (enter-at.ensures.inside if1.false).used load.ensures waiting-length.ensures.0 e (ap (with_invocations load.result) acted.ensures.is) in
-    writing args.code.now args.parameter.now args.what args.table.now _ (writes args.code.now args.parameter.now x args.what pre e) (omega (arith, s.room)) (fits s)
+    let x = place_at (view c.args.table.now) c.enter_at-m.result.place in
+    let e = sym c.if-why-ne0.false ∙ c.refusal-why.ensures x (sym (ap (λ (k : Control). k.state) c.load-c.ensures)) (sym (ap (λ (k : Control). k.invocations) c.load-c.ensures)) (sym c.waiting_length-n.ensures.0) in
+    let s = appends c.args.code.now c.args.parameter.now c.args.what (c.enter_at-m.ensures.inside c.if-answer-ne0.false).used c.load-c.ensures c.waiting_length-n.ensures.0 e (ap (with_invocations c.load-c.result) c.acted-s.ensures.is) in
+    writing c.args.code.now c.args.parameter.now c.args.what c.args.table.now _ (writes c.args.code.now c.args.parameter.now x c.args.what c.requires e) (omega (arith, s.room)) (fits s)
 
 pub overflow_sub-e : goal.overflow_sub-e
 overflow_sub-e c =
-    let write = c.write-e in
-    omega (arith, write.ensures.past)
+    omega (arith, c.write-e.ensures.past)
 
 pub overflow_cast-e : goal.overflow_cast-e
 overflow_cast-e c =
-    let args = c.?.before.before.args in
-    let enter-at = c.enter_at-m in
-    let if1 = c.if-answer-ne0 in
-    let load = c.load-c in
-    let waiting-length = c.waiting_length-n in
-    let refusal = c.refusal-why in
-    let if2 = c.if-why-ne0 in
-    let acted = c.acted-s in
-    let write = c.write-e in
-    let x = place_at (view args.table.now) enter-at.result.place in
-    let e = sym if2.false ∙ refusal.ensures x (sym (ap (λ (k : Control). k.state) load.ensures)) (sym (ap (λ (k : Control). k.invocations) load.ensures)) (sym waiting-length.ensures.0) in
-    let s = appends args.code.now args.parameter.now args.what (enter-at.ensures.inside if1.false).used load.ensures waiting-length.ensures.0 e (ap (with_invocations load.result) acted.ensures.is) in
-    omega (arith, (past s write.ensures).2)
+    let x = place_at (view c.args.table.now) c.enter_at-m.result.place in
+    let e = sym c.if-why-ne0.false ∙ c.refusal-why.ensures x (sym (ap (λ (k : Control). k.state) c.load-c.ensures)) (sym (ap (λ (k : Control). k.invocations) c.load-c.ensures)) (sym c.waiting_length-n.ensures.0) in
+    let s = appends c.args.code.now c.args.parameter.now c.args.what (c.enter_at-m.ensures.inside c.if-answer-ne0.false).used c.load-c.ensures c.waiting_length-n.ensures.0 e (ap (with_invocations c.load-c.result) c.acted-s.ensures.is) in
+    omega (arith, (past s c.write-e.ensures).2)
 
 pub put_control-requires : goal.put_control-requires
 put_control-requires c =
-    let args = c.?.before.before.args in
-    let enter-at = c.enter_at-m in
-    let if1 = c.if-answer-ne0 in
-    let load = c.load-c in
-    let waiting-length = c.waiting_length-n in
-    let refusal = c.refusal-why in
-    let if2 = c.if-why-ne0 in
-    let acted = c.acted-s in
-    let write = c.write-e in
-    let x = place_at (view args.table.now) enter-at.result.place in
-    let e = sym if2.false ∙ refusal.ensures x (sym (ap (λ (k : Control). k.state) load.ensures)) (sym (ap (λ (k : Control). k.invocations) load.ensures)) (sym waiting-length.ensures.0) in
-    let s = appends args.code.now args.parameter.now args.what (enter-at.ensures.inside if1.false).used load.ensures waiting-length.ensures.0 e (ap (with_invocations load.result) acted.ensures.is) in
-    (s.storing.small, as_long s write.ensures, s.storing.control)
+    let x = place_at (view c.args.table.now) c.enter_at-m.result.place in
+    let e = sym c.if-why-ne0.false ∙ c.refusal-why.ensures x (sym (ap (λ (k : Control). k.state) c.load-c.ensures)) (sym (ap (λ (k : Control). k.invocations) c.load-c.ensures)) (sym c.waiting_length-n.ensures.0) in
+    let s = appends c.args.code.now c.args.parameter.now c.args.what (c.enter_at-m.ensures.inside c.if-answer-ne0.false).used c.load-c.ensures c.waiting_length-n.ensures.0 e (ap (with_invocations c.load-c.result) c.acted-s.ensures.is) in
+    (s.storing.small, as_long s c.write-e.ensures, s.storing.control)
 
 pub returns : goal.returns
 returns c =
-    let args = c.?.before.before.args in
-    let enter-at = c.enter_at-m in
-    let if1 = c.if-answer-ne0 in
-    let load = c.load-c in
-    let waiting-length = c.waiting_length-n in
-    let refusal = c.refusal-why in
-    let if2 = c.if-why-ne0 in
-    let acted = c.acted-s in
-    let write = c.write-e in
-    let put-control = c.put_control in
-    let done = c.done in
-    let m = meets-as (passing-spaces args.code.now args.parameter.now args.what) enter-at.ensures in
-    let x = place_at (view args.table.now) enter-at.result.place in
-    let e = sym if2.false ∙ refusal.ensures x (sym (ap (λ (k : Control). k.state) load.ensures)) (sym (ap (λ (k : Control). k.invocations) load.ensures)) (sym waiting-length.ensures.0) in
-    let s = appends args.code.now args.parameter.now args.what (enter-at.ensures.inside if1.false).used load.ensures waiting-length.ensures.0 e (ap (with_invocations load.result) acted.ensures.is) in
-    pass-done args.table.now args.service args.dialogue args.what args.code.now args.parameter.now enter-at.result.place (m.inside if1.false)
-    e (ap (with_invocations load.result) acted.ensures.is ∙ ap (control_after args.what) load.ensures) done.ensures (appended s write.ensures put-control.ensures)
+    let m = meets-as (passing-spaces c.args.code.now c.args.parameter.now c.args.what) c.enter_at-m.ensures in
+    let x = place_at (view c.args.table.now) c.enter_at-m.result.place in
+    let e = sym c.if-why-ne0.false ∙ c.refusal-why.ensures x (sym (ap (λ (k : Control). k.state) c.load-c.ensures)) (sym (ap (λ (k : Control). k.invocations) c.load-c.ensures)) (sym c.waiting_length-n.ensures.0) in
+    let s = appends c.args.code.now c.args.parameter.now c.args.what (c.enter_at-m.ensures.inside c.if-answer-ne0.false).used c.load-c.ensures c.waiting_length-n.ensures.0 e (ap (with_invocations c.load-c.result) c.acted-s.ensures.is) in
+    pass-done c.args.table.now c.args.service c.args.dialogue c.args.what c.args.code.now c.args.parameter.now c.enter_at-m.result.place (m.inside c.if-answer-ne0.false)
+    e (ap (with_invocations c.load-c.result) c.acted-s.ensures.is ∙ ap (control_after c.args.what) c.load-c.ensures) c.done.ensures (appended s c.write-e.ensures c.put_control.ensures)

@@ -3,8 +3,7 @@ use Rattle.call_receive_parts.proofs.begin_at.Goals as goal
 
 pub begin_at-requires : goal.begin_at-requires
 begin_at-requires c =
-    let p = c.?.before.requires in
-    begun-storing _ _ _ c.shown-r.result _ _ _ _ _ c.peer_of-peer.ensures c.begun-c.ensures p.0 p.1 c.turn_at-turn.ensures.1 p.4 p.2 c.shown-r.ensures.control
+    begun-storing _ _ _ c.shown-r.result _ _ _ _ _ c.peer_of-peer.ensures c.begun-c.ensures c.requires.0 c.requires.1 c.turn_at-turn.ensures.1 c.requires.4 c.requires.2 c.shown-r.ensures.control
 
 pub returns : goal.returns
 returns c =

@@ -3,8 +3,7 @@ use Rattle.call_receive_parts.proofs.continue_received.Goals as goal
 
 pub store_control-requires : goal.store_control-requires
 store_control-requires c =
-    let p = c.?.requires in
-    continued-storing _ _ _ c.shown-r.result _ _ c.load-c.ensures _ c.continued-d.ensures p.0 p.3 p.1 c.shown-r.ensures.control
+    continued-storing _ _ _ c.shown-r.result _ _ c.load-c.ensures _ c.continued-d.ensures c.requires.0 c.requires.3 c.requires.1 c.shown-r.ensures.control
 
 pub returns : goal.returns
 returns c =

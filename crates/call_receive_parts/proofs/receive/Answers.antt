@@ -14,8 +14,7 @@ returns-then-m c =
 
 pub sound_received-requires : goal.sound_received-requires
 sound_received-requires c =
-    let p = c.requires in
-    (p.0, record { octets = λ i. omega (arith, c.shared_slice_known-1.given i); few = omega arith; lies = c.message_of-m.ensures.within }, p.3, p.4, omega arith)
+    (c.requires.0, record { octets = λ i. omega (arith, c.shared_slice_known-1.given i); few = omega arith; lies = c.message_of-m.ensures.within }, c.requires.3, c.requires.4, omega arith)
 
 pub returns-then-m-2 : goal.returns-then-m-2
 unfolding received
@@ -24,8 +23,7 @@ returns-then-m-2 c =
 
 pub faulted-requires : goal.faulted-requires
 faulted-requires c =
-    let p = c.requires in
-    (p.0.ready, record { octets = λ i. omega (arith, c.shared_slice_known-1.given i); few = omega arith; lies = c.message_of-m.ensures.within }, p.3, p.4)
+    (c.requires.0.ready, record { octets = λ i. omega (arith, c.shared_slice_known-1.given i); few = omega arith; lies = c.message_of-m.ensures.within }, c.requires.3, c.requires.4)
 
 pub returns : goal.returns
 unfolding received

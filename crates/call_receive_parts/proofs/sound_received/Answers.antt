@@ -16,8 +16,7 @@ returns-then-m-eq97 c =
 
 pub begin_received-requires : goal.begin_received-requires
 begin_received-requires c =
-    let p = c.requires in
-    (p.0, p.1, p.2, p.3, p.1.lies.begins p.4 (omega arith))
+    (c.requires.0, c.requires.1, c.requires.2, c.requires.3, c.requires.1.lies.begins c.requires.4 (omega arith))
 
 pub returns-then-m-eq98 : goal.returns-then-m-eq98
 unfolding sound_received
@@ -26,23 +25,20 @@ returns-then-m-eq98 c =
 
 pub number_at-me-requires : goal.number_at-me-requires
 number_at-me-requires c =
-    let a = c.?.args in
-    let k = assigned-is (view a.t.now) a.service a.s.now a.m (sym c.assigned.ensures ∙ c.if-assigned.true) in
-    omega (arith, k.0, c.?.requires.1.lies.destination.lies)
+    let k = assigned-is (view c.args.t.now) c.args.service c.args.s.now c.args.m (sym c.assigned.ensures ∙ c.if-assigned.true) in
+    omega (arith, k.0, c.requires.1.lies.destination.lies)
 
 pub to_dialogue-requires : goal.to_dialogue-requires
 to_dialogue-requires c =
-    let a = c.?.args in
-    let k = assigned-is (view a.t.now) a.service a.s.now a.m (sym c.assigned.ensures ∙ c.if-assigned.true) in
-    (owned-standing a.t.now c.?.requires.0.ready a.service _ _ c.number_at-me.ensures k.1, c.?.requires.1, c.?.requires.2, c.?.requires.3, c.?.requires.4)
+    let k = assigned-is (view c.args.t.now) c.args.service c.args.s.now c.args.m (sym c.assigned.ensures ∙ c.if-assigned.true) in
+    (owned-standing c.args.t.now c.requires.0.ready c.args.service _ _ c.number_at-me.ensures k.1, c.requires.1, c.requires.2, c.requires.3, c.requires.4)
 
 pub returns-then-assigned : goal.returns-then-assigned
 unfolding sound_received
 returns-then-assigned c =
-    let a = c.?.args in
-    let T : Table = view a.t.now in
+    let T : Table = view c.args.t.now in
     receives-as
-    (ap (λ (k : ℕ). to_dialogue T a.service k a.s.now a.m (place_at T (place_of k))) c.number_at-me.ensures
+    (ap (λ (k : ℕ). to_dialogue T c.args.service k c.args.s.now c.args.m (place_at T (place_of k))) c.number_at-me.ensures
     ∙ ne _ _ _ _ (λ h. omega arith) (ne _ _ _ _ (λ h. omega arith) (yes _ _ _ (sym c.assigned.ensures ∙ c.if-assigned.true) refl)))
     c.to_dialogue.ensures
 

@@ -14,12 +14,11 @@ returns-then-m-eq101 c =
 pub returns-then-state_at-eq-DIALOGUE_RECEIVED : goal.returns-then-state_at-eq-DIALOGUE_RECEIVED
 unfolding to_dialogue
 returns-then-state_at-eq-DIALOGUE_RECEIVED c =
-    receives-as (eq _ _ _ _ (omega arith) (ne _ _ _ _ (λ h. omega arith) refl)) (drop-receives _ _ _ c.?.requires.0.ready)
+    receives-as (eq _ _ _ _ (omega arith) (ne _ _ _ _ (λ h. omega arith) refl)) (drop-receives _ _ _ c.requires.0.ready)
 
 pub continue_received-n-requires : goal.continue_received-n-requires
 continue_received-n-requires c =
-    let p = c.?.requires in
-    (p.0, p.1, p.2, p.1.lies.continues p.4 (omega arith))
+    (c.requires.0, c.requires.1, c.requires.2, c.requires.1.lies.continues c.requires.4 (omega arith))
 
 pub returns-then-m-eq101-2 : goal.returns-then-m-eq101-2
 unfolding to_dialogue

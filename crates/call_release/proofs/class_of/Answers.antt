@@ -6,6 +6,4 @@ use Rattle.call_release.proofs.class_of.Goals as goal
 
 pub returns : goal.returns
 returns c =
-    let load = c.load-c in
-    let invocation-of = c.invocation_of-v in
-    ap (λ (v : Invocation). v.class) invocation-of.ensures ∙ ap (λ (x : Control). (invocation_of x.invocations c.args.id).class) load.ensures
+    ap (λ (v : Invocation). v.class) c.invocation_of-v.ensures ∙ ap (λ (x : Control). (invocation_of x.invocations c.args.id).class) c.load-c.ensures

@@ -10,25 +10,15 @@ use Rattle.call_release.proofs.end_prearranged.Goals as goal
 
 pub returns-then-answer-ne0 : goal.returns-then-answer-ne0
 returns-then-answer-ne0 c =
-    let args = c.?.args in
-    let enter-at = c.enter_at-m in
-    let refused = c.refused in
-    dialogue-refused (only args.table.now) args.service args.dialogue Prearranged enter-at.result.answer enter-at.ensures.is (omega arith) refused.ensures
+    dialogue-refused (only c.args.table.now) c.args.service c.args.dialogue Prearranged c.enter_at-m.result.answer c.enter_at-m.ensures.is (omega arith) c.refused.ensures
 
 pub free_at-requires : goal.free_at-requires
 free_at-requires c =
-    let enter-at = c.enter_at-m in
-    let if1 = c.if-answer-ne0 in
-    let u = (enter-at.ensures.inside if1.false).used in
+    let u = (c.enter_at-m.ensures.inside c.if-answer-ne0.false).used in
     (u.ready, u.small, u.told)
 
 pub returns : goal.returns
 unfolding refusal does
 returns c =
-    let args = c.?.args in
-    let enter-at = c.enter_at-m in
-    let if1 = c.if-answer-ne0 in
-    let free-at = c.free_at in
-    let done = c.done in
-    dialogue-changed (only args.table.now) args.service args.dialogue Prearranged enter-at.result.place (enter-at.ensures.inside if1.false)
-    (freed (place_at (view args.table.now) enter-at.result.place)) refl refl done.ensures free-at.ensures
+    dialogue-changed (only c.args.table.now) c.args.service c.args.dialogue Prearranged c.enter_at-m.result.place (c.enter_at-m.ensures.inside c.if-answer-ne0.false)
+    (freed (place_at (view c.args.table.now) c.enter_at-m.result.place)) refl refl c.done.ensures c.free_at.ensures

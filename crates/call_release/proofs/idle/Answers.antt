@@ -12,46 +12,25 @@ use Rattle.call_release.proofs.idle.Goals as goal
 
 pub returns-then-answer-ne0 : goal.returns-then-answer-ne0
 returns-then-answer-ne0 c =
-    let args = c.?.args in
-    let enter-at = c.enter_at-m in
-    let refused = c.refused in
-    let m = meets-as (idling-spaces args.id args.by) enter-at.ensures in
-    dialogue-refused (only args.table.now) args.service args.dialogue (idling args.by args.id) enter-at.result.answer m.is (omega arith) refused.ensures
+    let m = meets-as (idling-spaces c.args.id c.args.by) c.enter_at-m.ensures in
+    dialogue-refused (only c.args.table.now) c.args.service c.args.dialogue (idling c.args.by c.args.id) c.enter_at-m.result.answer m.is (omega arith) c.refused.ensures
 
 pub idle_from-why-requires : goal.idle_from-why-requires
 idle_from-why-requires c =
-    let args = c.?.args in
-    let enter-at = c.enter_at-m in
-    let if1 = c.if-answer-ne0 in
-    let from-state = c.from_state-from in
-    ((enter-at.ensures.inside if1.false).used, from-positive args.by from-state.ensures)
+    ((c.enter_at-m.ensures.inside c.if-answer-ne0.false).used, from-positive c.args.by c.from_state-from.ensures)
 
 pub returns-then-why-ne0 : goal.returns-then-why-ne0
 returns-then-why-ne0 c =
-    let args = c.?.args in
-    let enter-at = c.enter_at-m in
-    let if1 = c.if-answer-ne0 in
-    let from-state = c.from_state-from in
-    let idle-from = c.idle_from-why in
-    let if2 = c.if-why-ne0 in
-    let refused2 = c.refused-then-why-ne0 in
-    let m = meets-as (idling-spaces args.id args.by) enter-at.ensures in
-    let x = place_at (view args.table.now) enter-at.result.place in
-    left_as (idle-from.ensures.same if2.true)
-    (dialogue-no (only args.table.now) args.service args.dialogue (idling args.by args.id) enter-at.result.place (m.inside if1.false)
-    idle-from.result (idle-from.ensures.is ∙ ap (needs_state x args.id) from-state.ensures ∙ idling-refusal args.id args.by x) (omega (arith, if2)) refused2.ensures)
+    let m = meets-as (idling-spaces c.args.id c.args.by) c.enter_at-m.ensures in
+    let x = place_at (view c.args.table.now) c.enter_at-m.result.place in
+    left_as (c.idle_from-why.ensures.same c.if-why-ne0.true)
+    (dialogue-no (only c.args.table.now) c.args.service c.args.dialogue (idling c.args.by c.args.id) c.enter_at-m.result.place (m.inside c.if-answer-ne0.false)
+    c.idle_from-why.result (c.idle_from-why.ensures.is ∙ ap (needs_state x c.args.id) c.from_state-from.ensures ∙ idling-refusal c.args.id c.args.by x) (omega (arith, c.if-why-ne0)) c.refused-then-why-ne0.ensures)
 
 pub returns : goal.returns
 returns c =
-    let args = c.?.args in
-    let enter-at = c.enter_at-m in
-    let if1 = c.if-answer-ne0 in
-    let from-state = c.from_state-from in
-    let idle-from = c.idle_from-why in
-    let if2 = c.if-why-ne0 in
-    let done = c.done in
-    let m = meets-as (idling-spaces args.id args.by) enter-at.ensures in
-    let x = place_at (view args.table.now) enter-at.result.place in
-    dialogue-changed (only args.table.now) args.service args.dialogue (idling args.by args.id) enter-at.result.place (m.inside if1.false)
-    (with_control x (to_idle x.control args.id)) (sym if2.false ∙ idle-from.ensures.is ∙ ap (needs_state x args.id) from-state.ensures ∙ idling-refusal args.id args.by x)
-    (idling-does args.id args.by args.dialogue x) done.ensures (idle-from.ensures.changed if2.false)
+    let m = meets-as (idling-spaces c.args.id c.args.by) c.enter_at-m.ensures in
+    let x = place_at (view c.args.table.now) c.enter_at-m.result.place in
+    dialogue-changed (only c.args.table.now) c.args.service c.args.dialogue (idling c.args.by c.args.id) c.enter_at-m.result.place (m.inside c.if-answer-ne0.false)
+    (with_control x (to_idle x.control c.args.id)) (sym c.if-why-ne0.false ∙ c.idle_from-why.ensures.is ∙ ap (needs_state x c.args.id) c.from_state-from.ensures ∙ idling-refusal c.args.id c.args.by x)
+    (idling-does c.args.id c.args.by c.args.dialogue x) c.done.ensures (c.idle_from-why.ensures.changed c.if-why-ne0.false)

@@ -19,58 +19,34 @@ use Rattle.call_release.proofs.no_reaction.Goals as goal
 
 pub returns-then-answer-ne0 : goal.returns-then-answer-ne0
 returns-then-answer-ne0 c =
-    let args = c.?.args in
-    let enter-at = c.enter_at-m in
-    let refused = c.refused in
-    dialogue-refused (with_rows args.table.now args.rows.now) args.service args.dialogue NoReaction
-    enter-at.result.answer enter-at.ensures.is (omega arith) refused.ensures
+    dialogue-refused (with_rows c.args.table.now c.args.rows.now) c.args.service c.args.dialogue NoReaction
+    c.enter_at-m.result.answer c.enter_at-m.ensures.is (omega arith) c.refused.ensures
 
 pub load-c-requires : goal.load-c-requires
 load-c-requires c =
-    let enter-at = c.enter_at-m in
-    let if1 = c.if-answer-ne0 in
-    let u = (enter-at.ensures.inside if1.false).used in
+    let u = (c.enter_at-m.ensures.inside c.if-answer-ne0.false).used in
     (u.small, u.ready.long)
 
 pub returns-then-state-ne-DIALOGUE_SENT : goal.returns-then-state-ne-DIALOGUE_SENT
 unfolding refusal needs_sent
 returns-then-state-ne-DIALOGUE_SENT c =
-    let args = c.?.before.args in
-    let enter-at = c.enter_at-m in
-    let if1 = c.if-answer-ne0 in
-    let load = c.load-c in
-    let if2 = c.if-state-ne-DIALOGUE_SENT in
-    let refused2 = c.refused-then-state-ne-DIALOGUE_SENT in
-    dialogue-no (with_rows args.table.now args.rows.now) args.service args.dialogue NoReaction
-    enter-at.result.place (enter-at.ensures.inside if1.false) 6 (ne _ _ _ _ (λ q. if2.true (ap (λ (k : Control). k.state) load.ensures ∙ q)) refl) (omega arith) refused2.ensures
+    dialogue-no (with_rows c.args.table.now c.args.rows.now) c.args.service c.args.dialogue NoReaction
+    c.enter_at-m.result.place (c.enter_at-m.ensures.inside c.if-answer-ne0.false) 6 (ne _ _ _ _ (λ q. c.if-state-ne-DIALOGUE_SENT.true (ap (λ (k : Control). k.state) c.load-c.ensures ∙ q)) refl) (omega arith) c.refused-then-state-ne-DIALOGUE_SENT.ensures
 
 pub free_at-requires : goal.free_at-requires
 free_at-requires c =
-    let enter-at = c.enter_at-m in
-    let if1 = c.if-answer-ne0 in
-    let u = (enter-at.ensures.inside if1.false).used in
+    let u = (c.enter_at-m.ensures.inside c.if-answer-ne0.false).used in
     (u.ready, u.small, u.told)
 
 pub write_row-requires : goal.write_row-requires
 write_row-requires c =
-    let enter-at = c.enter_at-m in
-    let if1 = c.if-answer-ne0 in
-    omega (arith, (enter-at.ensures.inside if1.false).within.long.0)
+    omega (arith, (c.enter_at-m.ensures.inside c.if-answer-ne0.false).within.long.0)
 
 pub returns : goal.returns
 unfolding refusal does needs_sent
 returns c =
-    let args = c.?.before.args in
-    let enter-at = c.enter_at-m in
-    let if1 = c.if-answer-ne0 in
-    let load = c.load-c in
-    let if2 = c.if-state-ne-DIALOGUE_SENT in
-    let free-at = c.free_at in
-    let dialogue-row = c.dialogue_row-row in
-    let write-row = c.write_row in
-    let done = c.done in
-    let w : Row = dialogue_row row_abort args.dialogue no_problem no_run 0 in
-    dialogue-done (with_rows args.table.now args.rows.now) args.service args.dialogue NoReaction
-    enter-at.result.place (enter-at.ensures.inside if1.false) (freed (place_at (view args.table.now) enter-at.result.place)) (w ∷ []) []
-    (eq _ _ _ _ (ap (λ (k : Control). k.state) (sym load.ensures) ∙ if2.false) refl) refl done.ensures free-at.ensures
-    (write-row.ensures.0 ∙ ap (λ (r : Row). sets args.rows.now 0 (row_octets r)) dialogue-row.ensures ∙ one-row args.rows.now w) refl
+    let w : Row = dialogue_row row_abort c.args.dialogue no_problem no_run 0 in
+    dialogue-done (with_rows c.args.table.now c.args.rows.now) c.args.service c.args.dialogue NoReaction
+    c.enter_at-m.result.place (c.enter_at-m.ensures.inside c.if-answer-ne0.false) (freed (place_at (view c.args.table.now) c.enter_at-m.result.place)) (w ∷ []) []
+    (eq _ _ _ _ (ap (λ (k : Control). k.state) (sym c.load-c.ensures) ∙ c.if-state-ne-DIALOGUE_SENT.false) refl) refl c.done.ensures c.free_at.ensures
+    (c.write_row.ensures.is ∙ ap (λ (r : Row). sets c.args.rows.now 0 (row_octets r)) c.dialogue_row-row.ensures ∙ one-row c.args.rows.now w) refl

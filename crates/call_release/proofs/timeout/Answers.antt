@@ -16,79 +16,46 @@ use Rattle.call_release.proofs.timeout.Goals as goal
 
 pub returns-then-answer-ne0 : goal.returns-then-answer-ne0
 returns-then-answer-ne0 c =
-    let args = c.?.args in
-    let enter-at = c.enter_at-m in
-    let refused = c.refused in
-    dialogue-refused (with_rows args.table.now args.rows.now) args.service args.dialogue (Timeout args.id)
-    enter-at.result.answer enter-at.ensures.is (omega arith) refused.ensures
+    dialogue-refused (with_rows c.args.table.now c.args.rows.now) c.args.service c.args.dialogue (Timeout c.args.id)
+    c.enter_at-m.result.answer c.enter_at-m.ensures.is (omega arith) c.refused.ensures
 
 pub class_of-class-requires : goal.class_of-class-requires
 class_of-class-requires c =
-    let enter-at = c.enter_at-m in
-    let if1 = c.if-answer-ne0 in
-    (enter-at.ensures.inside if1.false).used
+    (c.enter_at-m.ensures.inside c.if-answer-ne0.false).used
 
 pub idle_from-n-requires : goal.idle_from-n-requires
 idle_from-n-requires c =
-    let enter-at = c.enter_at-m in
-    let if1 = c.if-answer-ne0 in
-    ((enter-at.ensures.inside if1.false).used, omega arith)
+    ((c.enter_at-m.ensures.inside c.if-answer-ne0.false).used, omega arith)
 
 pub returns-then-n-ne0 : goal.returns-then-n-ne0
 unfolding refusal
 returns-then-n-ne0 c =
-    let args = c.?.before.args in
-    let enter-at = c.enter_at-m in
-    let if1 = c.if-answer-ne0 in
-    let idle-from = c.idle_from-n in
-    let if2 = c.if-n-ne0 in
-    let refused2 = c.refused-then-n-ne0 in
-    left_as (idle-from.ensures.same if2.true)
-    (dialogue-no (with_rows args.table.now args.rows.now) args.service args.dialogue (Timeout args.id)
-    enter-at.result.place (enter-at.ensures.inside if1.false) idle-from.result idle-from.ensures.is (omega (arith, if2)) refused2.ensures)
+    left_as (c.idle_from-n.ensures.same c.if-n-ne0.true)
+    (dialogue-no (with_rows c.args.table.now c.args.rows.now) c.args.service c.args.dialogue (Timeout c.args.id)
+    c.enter_at-m.result.place (c.enter_at-m.ensures.inside c.if-answer-ne0.false) c.idle_from-n.result c.idle_from-n.ensures.is (omega (arith, c.if-n-ne0)) c.refused-then-n-ne0.ensures)
 
 pub returns-then-class-eq4 : goal.returns-then-class-eq4
 unfolding refusal does
 returns-then-class-eq4 c =
-    let args = c.?.before.args in
-    let enter-at = c.enter_at-m in
-    let if1 = c.if-answer-ne0 in
-    let class_of = c.class_of-class in
-    let idle-from = c.idle_from-n in
-    let if2 = c.if-n-ne0 in
-    let if3 = c.if-class-eq4 in
-    let done = c.done in
-    let x = place_at (view args.table.now) enter-at.result.place in
-    let y : Place = with_control x (to_idle x.control args.id) in
-    dialogue-done (with_rows args.table.now args.rows.now) args.service args.dialogue (Timeout args.id)
-    enter-at.result.place (enter-at.ensures.inside if1.false) y [] [] (sym if2.false ∙ idle-from.ensures.is)
-    (ap (λ (l : List Row). gives y l []) (no-cancel-row args.dialogue x args.id class_of.result class_of.ensures if3.true))
-    done.ensures (idle-from.ensures.changed if2.false) (no_rows args.rows.now) refl
+    let x = place_at (view c.args.table.now) c.enter_at-m.result.place in
+    let y : Place = with_control x (to_idle x.control c.args.id) in
+    dialogue-done (with_rows c.args.table.now c.args.rows.now) c.args.service c.args.dialogue (Timeout c.args.id)
+    c.enter_at-m.result.place (c.enter_at-m.ensures.inside c.if-answer-ne0.false) y [] [] (sym c.if-n-ne0.false ∙ c.idle_from-n.ensures.is)
+    (ap (λ (l : List Row). gives y l []) (no-cancel-row c.args.dialogue x c.args.id c.class_of-class.result c.class_of-class.ensures c.if-class-eq4.true))
+    c.done.ensures (c.idle_from-n.ensures.changed c.if-n-ne0.false) (no_rows c.args.rows.now) refl
 
 pub write_row-requires : goal.write_row-requires
 write_row-requires c =
-    let enter-at = c.enter_at-m in
-    let if1 = c.if-answer-ne0 in
-    omega (arith, (enter-at.ensures.inside if1.false).within.long.0)
+    omega (arith, (c.enter_at-m.ensures.inside c.if-answer-ne0.false).within.long.0)
 
 pub returns : goal.returns
 unfolding refusal does
 returns c =
-    let args = c.?.before.args in
-    let enter-at = c.enter_at-m in
-    let if1 = c.if-answer-ne0 in
-    let class_of = c.class_of-class in
-    let idle-from = c.idle_from-n in
-    let if2 = c.if-n-ne0 in
-    let if3 = c.if-class-eq4 in
-    let cancel-row = c.cancel_row-row in
-    let write-row = c.write_row in
-    let done2 = c.done-2 in
-    let x = place_at (view args.table.now) enter-at.result.place in
-    let y : Place = with_control x (to_idle x.control args.id) in
-    let w : Row = cancel_row args.dialogue args.id in
-    dialogue-done (with_rows args.table.now args.rows.now) args.service args.dialogue (Timeout args.id)
-    enter-at.result.place (enter-at.ensures.inside if1.false) y (w ∷ []) [] (sym if2.false ∙ idle-from.ensures.is)
-    (ap (λ (l : List Row). gives y l []) (cancel-rows args.dialogue x args.id class_of.result class_of.ensures if3.false))
-    done2.ensures (idle-from.ensures.changed if2.false)
-    (write-row.ensures.0 ∙ ap (λ (r : Row). sets args.rows.now 0 (row_octets r)) cancel-row.ensures ∙ one-row args.rows.now w) refl
+    let x = place_at (view c.args.table.now) c.enter_at-m.result.place in
+    let y : Place = with_control x (to_idle x.control c.args.id) in
+    let w : Row = cancel_row c.args.dialogue c.args.id in
+    dialogue-done (with_rows c.args.table.now c.args.rows.now) c.args.service c.args.dialogue (Timeout c.args.id)
+    c.enter_at-m.result.place (c.enter_at-m.ensures.inside c.if-answer-ne0.false) y (w ∷ []) [] (sym c.if-n-ne0.false ∙ c.idle_from-n.ensures.is)
+    (ap (λ (l : List Row). gives y l []) (cancel-rows c.args.dialogue x c.args.id c.class_of-class.result c.class_of-class.ensures c.if-class-eq4.false))
+    c.done-2.ensures (c.idle_from-n.ensures.changed c.if-n-ne0.false)
+    (c.write_row.ensures.is ∙ ap (λ (r : Row). sets c.args.rows.now 0 (row_octets r)) c.cancel_row-row.ensures ∙ one-row c.args.rows.now w) refl

@@ -5,5 +5,4 @@ use Rattle.call_send.proofs.write_given.Goals as goal
 
 pub returns-then-q-eq0 : goal.returns-then-q-eq0
 returns-then-q-eq0 c =
-    let pre = c.requires in
-    wrote_as (wrote_none _ _) (length_none _ (sym pre.2 ∙ c.if-q-eq0.true))
+    wrote_as (wrote_none _ _) (length_none _ (sym c.requires.2 ∙ c.if-q-eq0.true))

@@ -10,16 +10,10 @@ use Rattle.call_send.proofs.write_rest.Goals as goal
 
 pub write_components-b-requires : goal.write_components-b-requires
 write_components-b-requires c =
-    let pre = c.requires in
-    let write-given = c.write_given-a in
-    (omega (arith, pre.1.sends.most, components-small c.args.f.length), omega (arith, pre.1.portion, pre.2, write-given.ensures.past, write-given.ensures.long))
+    (omega (arith, c.requires.1.sends.most, components-small c.args.f.length), omega (arith, c.requires.1.portion, c.requires.2, c.write_given-a.ensures.past, c.write_given-a.ensures.long))
 
 pub returns : goal.returns
 returns c =
-    let pre = c.requires in
-    let write-given = c.write_given-a in
-    let write-components = c.write_components-b in
-    let write-sent = c.write_sent in
     let x : Place = place_at (view c.args.t.now) c.args.p in
-    rest-wrote c.args.f.length (portion_by (form_for c.args.kind) c.args.name.now c.args.information.now) (sent_components x c.args.f.fits) pre.1.sends.long
-    write-given.ensures write-components.ensures write-sent.ensures
+    rest-wrote c.args.f.length (portion_by (form_for c.args.kind) c.args.name.now c.args.information.now) (sent_components x c.args.f.fits) c.requires.1.sends.long
+    c.write_given-a.ensures c.write_components-b.ensures c.write_sent.ensures

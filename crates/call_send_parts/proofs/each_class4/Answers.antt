@@ -14,47 +14,28 @@ loop-c-init c =
 
 pub returns-then-not-of_class4 : goal.returns-then-not-of_class4
 returns-then-not-of_class4 c =
-    let loop = c.loop-c in
-    let component-at = c.component_at-k in
-    let of-class4 = c.of_class4 in
-    let if1 = c.if-not-of_class4 in
     let w : List ℕ = c.args.w.now in
-    let k = component-at.result in
-    let is = class4-at c.args.c k loop.at in
-    rest-fails (of_class4 c.args.c) w loop.at loop.invariant k component-at.ensures.0 (is ∙ sym of-class4.ensures ∙ not-true _ if1.true)
+    let is = class4-at c.args.c c.component_at-k.result c.loop-c.at in
+    rest-fails (of_class4 c.args.c) w c.loop-c.at c.loop-c.invariant c.component_at-k.result c.component_at-k.ensures.is (is ∙ sym c.of_class4.ensures ∙ not-true _ c.if-not-of_class4.true)
 
 pub returns-then-at-n : goal.returns-then-at-n
 returns-then-at-n c =
-    let loop = c.loop-c in
-    let component-at = c.component_at-k in
-    let of-class4 = c.of_class4 in
-    let if1 = c.if-not-of_class4 in
     let w : List ℕ = c.args.w.now in
-    let k = component-at.result in
-    let is = class4-at c.args.c k loop.at in
-    let y = sym of-class4.ensures ∙ not-false _ if1.false in
-    let s = class4-sound c.args.c k y in
-    rest_end (of_class4 c.args.c) w loop.at loop.invariant k component-at.ensures.0 (is ∙ y) s (omega arith)
+    let is = class4-at c.args.c c.component_at-k.result c.loop-c.at in
+    let y = sym c.of_class4.ensures ∙ not-false _ c.if-not-of_class4.false in
+    let s = class4-sound c.args.c c.component_at-k.result y in
+    rest_end (of_class4 c.args.c) w c.loop-c.at c.loop-c.invariant c.component_at-k.result c.component_at-k.ensures.is (is ∙ y) s (omega arith)
 
 pub loop-c-smaller : goal.loop-c-smaller
 loop-c-smaller c =
-    let component-at = c.component_at-k in
-    let of-class4 = c.of_class4 in
-    let if1 = c.if-not-of_class4 in
-    let k = component-at.result in
-    let y = sym of-class4.ensures ∙ not-false _ if1.false in
-    let s = class4-sound c.args.c k y in
-    omega (arith, component-at.ensures.1.long s)
+    let y = sym c.of_class4.ensures ∙ not-false _ c.if-not-of_class4.false in
+    let s = class4-sound c.args.c c.component_at-k.result y in
+    omega (arith, c.component_at-k.ensures.within.long s)
 
 pub loop-c-preserved : goal.loop-c-preserved
 loop-c-preserved c =
-    let loop = c.loop-c in
-    let component-at = c.component_at-k in
-    let of-class4 = c.of_class4 in
-    let if1 = c.if-not-of_class4 in
     let w : List ℕ = c.args.w.now in
-    let k = component-at.result in
-    let is = class4-at c.args.c k loop.at in
-    let y = sym of-class4.ensures ∙ not-false _ if1.false in
-    let s = class4-sound c.args.c k y in
-    rest_more (of_class4 c.args.c) w loop.at loop.invariant k component-at.ensures.0 (is ∙ y) s (omega arith) (omega (arith, component-at.ensures.1.long s))
+    let is = class4-at c.args.c c.component_at-k.result c.loop-c.at in
+    let y = sym c.of_class4.ensures ∙ not-false _ c.if-not-of_class4.false in
+    let s = class4-sound c.args.c c.component_at-k.result y in
+    rest_more (of_class4 c.args.c) w c.loop-c.at c.loop-c.invariant c.component_at-k.result c.component_at-k.ensures.is (is ∙ y) s (omega arith) (omega (arith, c.component_at-k.ensures.within.long s))

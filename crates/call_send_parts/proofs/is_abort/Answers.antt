@@ -4,14 +4,8 @@ use Rattle.call_send_parts.proofs.is_abort.Goals as goal
 
 pub returns-then-is_told : goal.returns-then-is_told
 returns-then-is_told c =
-    let is-told = c.is_told in
-    let if1 = c.if-is_told in
-    let is_Block = c.is_block in
-    is_Block.ensures ∙ abort-block c.args.portion.now (sym is-told.ensures ∙ if1.true)
+    c.is_block.ensures ∙ abort-block c.args.portion.now (sym c.is_told.ensures ∙ c.if-is_told.true)
 
 pub returns : goal.returns
 returns c =
-    let is-told = c.is_told in
-    let if1 = c.if-is_told in
-    let is-portion = c.is_portion in
-    is-portion.ensures ∙ abort-whole c.args.portion.now (sym is-told.ensures ∙ if1.false)
+    c.is_portion.ensures ∙ abort-whole c.args.portion.now (sym c.is_told.ensures ∙ c.if-is_told.false)

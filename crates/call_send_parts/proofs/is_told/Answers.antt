@@ -4,8 +4,7 @@ use Rattle.call_send_parts.proofs.is_told.Goals as goal
 
 pub returns-then-portion-eq0 : goal.returns-then-portion-eq0
 returns-then-portion-eq0 c =
-    let if1 = c.if-portion-eq0 in
-    told_none c.args.portion.now if1.true
+    told_none c.args.portion.now c.if-portion-eq0.true
 
 pub returns : goal.returns
 unfolding is_told

@@ -19,5 +19,4 @@ returns-then-k-ne161 c =
 pub returns : goal.returns
 unfolding of_class4
 returns c =
-    let invocation-of = c.invocation_of-v in
-    eq _ _ _ _ (omega arith) (eq _ _ _ _ (omega arith) (ap (λ (v : Invocation). eqb v.class 4) invocation-of.ensures))
+    eq _ _ _ _ (omega arith) (eq _ _ _ _ (omega arith) (ap (λ (v : Invocation). eqb v.class 4) c.invocation_of-v.ensures))

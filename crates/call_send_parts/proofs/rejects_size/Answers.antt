@@ -21,6 +21,5 @@ loop-i-preserved c =
 pub returns : goal.returns
 unfolding waiting_rejects
 returns c =
-    let d = c.args.c in
-    let e : c.loop-i.i ≡ d.count = omega arith in
-    record { is = c.loop-i.invariant.2 ∙ ap (λ (i : ℕ). length (first_rejects d.rejects i)) e; within = search rules }
+    let e : c.loop-i.i ≡ c.args.c.count = omega arith in
+    record { is = c.loop-i.invariant.2 ∙ ap (λ (i : ℕ). length (first_rejects c.args.c.rejects i)) e; within = search rules }

@@ -7,30 +7,20 @@ use Rattle.call_send_parts.proofs.uni_refusal.Goals as goal
 
 pub returns-then-c-ne-DIALOGUE_OPEN : goal.returns-then-c-ne-DIALOGUE_OPEN
 returns-then-c-ne-DIALOGUE_OPEN c =
-    let pre = c.requires in
     let x : Place = place_at (view c.args.t.now) c.args.p in
-    uni-state x c.args.c pre.control (λ z. omega arith)
+    uni-state x c.args.c c.requires.control (λ z. omega arith)
 
 pub returns-then-w-eq0 : goal.returns-then-w-eq0
 returns-then-w-eq0 c =
-    let pre = c.requires in
-    let if1 = c.if-c-ne-DIALOGUE_OPEN in
-    let waiting = c.waiting-w in
     let x : Place = place_at (view c.args.t.now) c.args.p in
-    uni-none x c.args.c pre.control if1.false waiting.result.now waiting.ensures c.if-w-eq0.true
+    uni-none x c.args.c c.requires.control c.if-c-ne-DIALOGUE_OPEN.false c.waiting-w.result.now c.waiting-w.ensures c.if-w-eq0.true
 
 pub returns-then-each_class4 : goal.returns-then-each_class4
 returns-then-each_class4 c =
-    let pre = c.requires in
-    let waiting = c.waiting-w in
-    let each-class4 = c.each_class4 in
     let x : Place = place_at (view c.args.t.now) c.args.p in
-    uni-may x c.args.c pre.control c.if-c-ne-DIALOGUE_OPEN.false waiting.result.now waiting.ensures c.if-w-eq0.false each-class4.result each-class4.ensures c.if-each_class4.true
+    uni-may x c.args.c c.requires.control c.if-c-ne-DIALOGUE_OPEN.false c.waiting-w.result.now c.waiting-w.ensures c.if-w-eq0.false c.each_class4.result c.each_class4.ensures c.if-each_class4.true
 
 pub returns : goal.returns
 returns c =
-    let pre = c.requires in
-    let waiting = c.waiting-w in
-    let each-class4 = c.each_class4 in
     let x : Place = place_at (view c.args.t.now) c.args.p in
-    uni-no x c.args.c pre.control c.if-c-ne-DIALOGUE_OPEN.false waiting.result.now waiting.ensures c.if-w-eq0.false each-class4.result each-class4.ensures c.if-each_class4.false
+    uni-no x c.args.c c.requires.control c.if-c-ne-DIALOGUE_OPEN.false c.waiting-w.result.now c.waiting-w.ensures c.if-w-eq0.false c.each_class4.result c.each_class4.ensures c.if-each_class4.false

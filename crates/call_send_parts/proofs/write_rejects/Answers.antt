@@ -26,6 +26,5 @@ loop-i-preserved c =
 pub returns : goal.returns
 unfolding waiting_rejects
 returns c =
-    let d = c.args.c in
-    let e : c.loop-i.i ≡ d.count = omega arith in
-    wrote_as c.loop-i.invariant.2 (ap (first_rejects d.rejects) e)
+    let e : c.loop-i.i ≡ c.args.c.count = omega arith in
+    wrote_as c.loop-i.invariant.2 (ap (first_rejects c.args.c.rejects) e)

@@ -8,14 +8,12 @@ use Rattle.dialogue_acts.proofs.act.Goals as goal
 pub returns-then-p-ne-NO_FAULT : goal.returns-then-p-ne-NO_FAULT
 unfolding act
 returns-then-p-ne-NO_FAULT c =
-    let k = c.stored_kind-kind.ensures in
-    record { is = λ d e n. c.fault.ensures.is _ d e (k.0 ∙ ap (stored_kind _) n) ∙ ne _ _ _ _ (λ h. omega arith) refl; waits = λ h. k.1 (c.fault.ensures.waits h) }
+    record { is = λ d e n. c.fault.ensures.is _ d e (c.stored_kind-kind.ensures.is ∙ ap (stored_kind _) n) ∙ ne _ _ _ _ (λ h. omega arith) refl; waits = λ h. c.stored_kind-kind.ensures.waits (c.fault.ensures.waits h) }
 
 pub returns-then-p-eq161 : goal.returns-then-p-eq161
 unfolding act
 returns-then-p-eq161 c =
-    let k = c.stored_kind-kind.ensures in
-    record { is = λ d e n. c.invoke.ensures.is _ _ d e (k.0 ∙ ap (stored_kind _) n) ∙ eq _ _ _ _ (omega arith) (eq _ _ _ _ (omega arith) refl); waits = λ h. k.1 (c.invoke.ensures.waits h) }
+    record { is = λ d e n. c.invoke.ensures.is _ _ d e (c.stored_kind-kind.ensures.is ∙ ap (stored_kind _) n) ∙ eq _ _ _ _ (omega arith) (eq _ _ _ _ (omega arith) refl); waits = λ h. c.stored_kind-kind.ensures.waits (c.invoke.ensures.waits h) }
 
 pub returns-then-p-eq164 : goal.returns-then-p-eq164
 unfolding act
@@ -25,5 +23,4 @@ returns-then-p-eq164 c =
 pub returns : goal.returns
 unfolding act
 returns c =
-    let k = c.stored_kind-kind.ensures in
-    record { is = λ d e n. c.answer.ensures.is _ d e (k.0 ∙ ap (stored_kind _) n) ∙ eq _ _ _ _ (omega arith) (ne _ _ _ _ (λ h. omega arith) (ne _ _ _ _ (λ h. omega arith) refl)); waits = λ h. k.1 (c.answer.ensures.waits h) }
+    record { is = λ d e n. c.answer.ensures.is _ d e (c.stored_kind-kind.ensures.is ∙ ap (stored_kind _) n) ∙ eq _ _ _ _ (omega arith) (ne _ _ _ _ (λ h. omega arith) (ne _ _ _ _ (λ h. omega arith) refl)); waits = λ h. c.stored_kind-kind.ensures.waits (c.answer.ensures.waits h) }

@@ -7,8 +7,7 @@ use Rattle.dialogue_acts.proofs.answer.Goals as goal
 
 pub answer_sent-requires : goal.answer_sent-requires
 answer_sent-requires c =
-    let s = c.state_at-state.ensures in
-    (s.1 (omega arith), sym s.0 ∙ c.if-state-eq-SENT.true)
+    (c.state_at-state.ensures.there (omega arith), sym c.state_at-state.ensures.is ∙ c.if-state-eq-SENT.true)
 
 pub returns-then-state-eq-SENT : goal.returns-then-state-eq-SENT
 unfolding answers

@@ -13,14 +13,12 @@ returns-then-p-eq-NO_PROBLEM c =
 pub returns-then-p-eq164 : goal.returns-then-p-eq164
 unfolding faults faulty_reject
 returns-then-p-eq164 c =
-    let r = c.release.ensures in
-    record { is = λ room d e q. told-as d _ _ _ (r.0 d e) _ _ r.1.0 r.1.1 (λ h. omega arith) ∙ eq _ _ _ _ (omega arith) (ne _ _ _ _ (λ h. omega arith) refl); waits = λ h. absurd (omega arith) }
+    record { is = λ room d e q. told-as d _ _ _ (c.release.ensures.is d e) _ _ c.release.ensures.told.0 c.release.ensures.told.1 (λ h. omega arith) ∙ eq _ _ _ _ (omega arith) (ne _ _ _ _ (λ h. omega arith) refl); waits = λ h. absurd (omega arith) }
 
 pub returns-then-is_answer : goal.returns-then-is_answer
 unfolding faults
 returns-then-is_answer c =
-    let r = c.release-then-is_answer.ensures in
-    record { is = λ room d e q. told-stored d _ _ _ (r.0 d e) room (r.1.0 ∙ q) ∙ ap (rejected room (released d _) _) r.1.1 ∙ ne _ _ _ _ (λ h. omega arith) (yes _ _ _ (sym c.is_answer.ensures ∙ c.if-is_answer.true) refl); waits = λ h. omega arith }
+    record { is = λ room d e q. told-stored d _ _ _ (c.release-then-is_answer.ensures.is d e) room (c.release-then-is_answer.ensures.told.0 ∙ q) ∙ ap (rejected room (released d _) _) c.release-then-is_answer.ensures.told.1 ∙ ne _ _ _ _ (λ h. omega arith) (yes _ _ _ (sym c.is_answer.ensures ∙ c.if-is_answer.true) refl); waits = λ h. omega arith }
 
 pub returns : goal.returns
 unfolding faults

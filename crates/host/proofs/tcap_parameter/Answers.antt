@@ -4,5 +4,4 @@ use Rattle.host.proofs.tcap_parameter.Goals as goal
 
 pub returns : goal.returns
 returns c =
-    let p = c.parameter_at-p.ensures in
-    record { is = (ap (λ (r : Run). r.start) p.0, ap (λ (r : Run). r.length) p.0); within = p.1 }
+    record { is = (ap (λ (r : Run). r.start) c.parameter_at-p.ensures.is, ap (λ (r : Run). r.length) c.parameter_at-p.ensures.is); within = c.parameter_at-p.ensures.within }

@@ -8,11 +8,9 @@ use Rattle.reading_portion.proofs.abort.Goals as goal
 pub returns-then-w-pdu : goal.returns-then-w-pdu
 unfolding all_pieces
 returns-then-w-pdu c =
-    let w = c.information_at-w in
-    in-form abrt _ c.args.pdu w.result _ (cc) (ne _ _ _ _ (λ h. omega arith) refl)
+    in-form abrt _ c.args.pdu c.information_at-w.result _ (cc) (ne _ _ _ _ (λ h. omega arith) refl)
 
 pub returns : goal.returns
 unfolding all_pieces
 returns c =
-    let w = c.information_at-w in
-    in-form abrt _ c.args.pdu w.result _ (cc) (eq _ _ _ _ (omega arith) refl)
+    in-form abrt _ c.args.pdu c.information_at-w.result _ (cc) (eq _ _ _ _ (omega arith) refl)

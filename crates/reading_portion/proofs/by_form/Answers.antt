@@ -5,25 +5,20 @@ use Rattle.reading_portion.proofs.by_form.Goals as goal
 
 pub returns-then-a-ne0 : goal.returns-then-a-ne0
 returns-then-a-ne0 c =
-    let x = c.external-x in
-    form-found aarq _ _ _ _ _ x.ensures.0 c.structured-a.ensures.is (λ h. omega arith) c.request.ensures
+    form-found aarq _ _ _ _ _ c.external-x.ensures.is c.structured-a.ensures.is (λ h. omega arith) c.request.ensures
 
 pub returns-then-b-ne0 : goal.returns-then-b-ne0
 returns-then-b-ne0 c =
-    let x = c.external-x in
-    form-next aarq _ _ _ _ _ x.ensures.0 c.structured-a.ensures.is (omega arith) (form-found aare _ _ _ _ _ x.ensures.0 c.structured-b.ensures.is (λ h. omega arith) c.response.ensures)
+    form-next aarq _ _ _ _ _ c.external-x.ensures.is c.structured-a.ensures.is (omega arith) (form-found aare _ _ _ _ _ c.external-x.ensures.is c.structured-b.ensures.is (λ h. omega arith) c.response.ensures)
 
 pub returns-then-c-ne0 : goal.returns-then-c-ne0
 returns-then-c-ne0 c =
-    let x = c.external-x in
-    form-next aarq _ _ _ _ _ x.ensures.0 c.structured-a.ensures.is (omega arith) (form-next aare _ _ _ _ _ x.ensures.0 c.structured-b.ensures.is (omega arith) (form-found abrt _ _ _ _ _ x.ensures.0 c.structured-c.ensures.is (λ h. omega arith) c.abort.ensures))
+    form-next aarq _ _ _ _ _ c.external-x.ensures.is c.structured-a.ensures.is (omega arith) (form-next aare _ _ _ _ _ c.external-x.ensures.is c.structured-b.ensures.is (omega arith) (form-found abrt _ _ _ _ _ c.external-x.ensures.is c.structured-c.ensures.is (λ h. omega arith) c.abort.ensures))
 
 pub returns-then-d-ne0 : goal.returns-then-d-ne0
 returns-then-d-ne0 c =
-    let x = c.external-x in
-    form-next aarq _ _ _ _ _ x.ensures.0 c.structured-a.ensures.is (omega arith) (form-next aare _ _ _ _ _ x.ensures.0 c.structured-b.ensures.is (omega arith) (form-next abrt _ _ _ _ _ x.ensures.0 c.structured-c.ensures.is (omega arith) (form-found audt _ _ _ _ _ x.ensures.0 c.unstructured-d.ensures.is (λ h. omega arith) c.unidirectional.ensures)))
+    form-next aarq _ _ _ _ _ c.external-x.ensures.is c.structured-a.ensures.is (omega arith) (form-next aare _ _ _ _ _ c.external-x.ensures.is c.structured-b.ensures.is (omega arith) (form-next abrt _ _ _ _ _ c.external-x.ensures.is c.structured-c.ensures.is (omega arith) (form-found audt _ _ _ _ _ c.external-x.ensures.is c.unstructured-d.ensures.is (λ h. omega arith) c.unidirectional.ensures)))
 
 pub returns : goal.returns
 returns c =
-    let x = c.external-x in
-    form-next aarq _ _ _ _ _ x.ensures.0 c.structured-a.ensures.is (omega arith) (form-next aare _ _ _ _ _ x.ensures.0 c.structured-b.ensures.is (omega arith) (form-next abrt _ _ _ _ _ x.ensures.0 c.structured-c.ensures.is (omega arith) (form-next audt _ _ _ _ _ x.ensures.0 c.unstructured-d.ensures.is (omega arith) (no-form _))))
+    form-next aarq _ _ _ _ _ c.external-x.ensures.is c.structured-a.ensures.is (omega arith) (form-next aare _ _ _ _ _ c.external-x.ensures.is c.structured-b.ensures.is (omega arith) (form-next abrt _ _ _ _ _ c.external-x.ensures.is c.structured-c.ensures.is (omega arith) (form-next audt _ _ _ _ _ c.external-x.ensures.is c.unstructured-d.ensures.is (omega arith) (no-form _))))

@@ -6,8 +6,7 @@ use Rattle.reading_portion.proofs.only.Goals as goal
 
 pub returns-then-f-e : goal.returns-then-f-e
 returns-then-f-e c =
-    let t = c.tagged-f.ensures in
-    record { is = only-by _ _ _ _ _ _ t.0 (omega arith); within = t.1 }
+    record { is = only-by _ _ _ _ _ _ c.tagged-f.ensures.is (omega arith); within = c.tagged-f.ensures.within }
 
 pub returns : goal.returns
 returns c =

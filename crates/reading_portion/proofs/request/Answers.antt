@@ -7,10 +7,8 @@ use Rattle.reading_portion.proofs.request.Goals as goal
 
 pub returns-then-w-pdu : goal.returns-then-w-pdu
 returns-then-w-pdu c =
-    let w = c.request_pieces-w in
-    in-form aarq _ c.args.pdu w.result _ w.ensures (ne _ _ _ _ (λ h. omega arith) refl)
+    in-form aarq _ c.args.pdu c.request_pieces-w.result _ c.request_pieces-w.ensures (ne _ _ _ _ (λ h. omega arith) refl)
 
 pub returns : goal.returns
 returns c =
-    let w = c.request_pieces-w in
-    in-form aarq _ c.args.pdu w.result _ w.ensures (eq _ _ _ _ (omega arith) refl)
+    in-form aarq _ c.args.pdu c.request_pieces-w.result _ c.request_pieces-w.ensures (eq _ _ _ _ (omega arith) refl)

@@ -20,12 +20,11 @@ bounds-s-2 c =
 pub returns : goal.returns
 unfolding place_by
 returns c =
-    let s = c.? in
     let n : ℕ = c.next_turn-turn.result in
     let x : ℕ = c.low.result in
     let y : ℕ = c.low-2.result in
     let w : ℕ = c.low-3.result in
-    let cleared : c.clear.new.0 ≡ replicate place_size 0 = c.clear.ensures ∙ ap (λ (k : ℕ). replicate k 0) s.requires in
+    let cleared : c.clear.new.out ≡ replicate place_size 0 = c.clear.ensures ∙ ap (λ (k : ℕ). replicate k 0) c.requires in
     ap (λ (l : List ℕ). set (set (set l 0 x) 1 y) 2 w) cleared
     ∙ ap (λ (m : ℕ). set (set (set (replicate place_size 0) 0 m) 1 y) 2 w) c.low.ensures
     ∙ ap (λ (m : ℕ). set (set (set (replicate place_size 0) 0 (n / 65536 % 256)) 1 m) 2 w) c.low-2.ensures

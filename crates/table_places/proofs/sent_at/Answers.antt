@@ -5,4 +5,4 @@ use Rattle.table_places.proofs.sent_at.Goals as goal
 pub returns : goal.returns
 returns c =
     c.put_control.ensures
-    ∙ octets-sent c.args.t.now c.args.p c.args.c c.requires c.clear.new.0 c.clear.ensures
+    ∙ octets-sent c.args.t.now c.args.p c.args.c c.requires c.clear.new.out c.clear.ensures

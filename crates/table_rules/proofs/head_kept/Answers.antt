@@ -12,29 +12,24 @@ use Rattle.table_rules.proofs.head_kept.Goals as goal
 pub returns-then-state-gt-DIALOGUE_ACTIVE : goal.returns-then-state-gt-DIALOGUE_ACTIVE
 unfolding head_kept every place_by
 returns-then-state-gt-DIALOGUE_ACTIVE c =
-    let s = c.args.rec.now in
-    not-at-most (get_or s state_at 0) dialogue_active _ _ (omega arith) refl
+    not-at-most (get_or c.args.rec.now state_at 0) dialogue_active _ _ (omega arith) refl
 
 pub returns-then-service-ge-SERVICES : goal.returns-then-service-ge-SERVICES
 unfolding head_kept every place_by
 returns-then-service-ge-SERVICES c =
-    let s = c.args.rec.now in
-    at_most (get_or s state_at 0) dialogue_active _ _ (omega arith) (not-below (get_or s service_at 0) services _ _ (omega arith) refl)
+    at_most (get_or c.args.rec.now state_at 0) dialogue_active _ _ (omega arith) (not-below (get_or c.args.rec.now service_at 0) services _ _ (omega arith) refl)
 
 pub returns-then-rejects_waiting-gt-MOST_REJECTS : goal.returns-then-rejects_waiting-gt-MOST_REJECTS
 unfolding head_kept every place_by
 returns-then-rejects_waiting-gt-MOST_REJECTS c =
-    let s = c.args.rec.now in
-    at_most (get_or s state_at 0) dialogue_active _ _ (omega arith) (below (get_or s service_at 0) services _ _ (omega arith) (yes _ _ _ (cc) (not-at-most (get_or s count_at 0) most_rejects _ _ (omega arith) refl)))
+    at_most (get_or c.args.rec.now state_at 0) dialogue_active _ _ (omega arith) (below (get_or c.args.rec.now service_at 0) services _ _ (omega arith) (yes _ _ _ (cc) (not-at-most (get_or c.args.rec.now count_at 0) most_rejects _ _ (omega arith) refl)))
 
 pub returns-then-peer_kept : goal.returns-then-peer_kept
 unfolding head_kept every place_by
 returns-then-peer_kept c =
-    let s = c.args.rec.now in
-    at_most (get_or s state_at 0) dialogue_active _ _ (omega arith) (below (get_or s service_at 0) services _ _ (omega arith) (yes _ _ _ (cc) (at_most (get_or s count_at 0) most_rejects _ _ (omega arith) (c.invocations_kept.ensures ∙ as_is _))))
+    at_most (get_or c.args.rec.now state_at 0) dialogue_active _ _ (omega arith) (below (get_or c.args.rec.now service_at 0) services _ _ (omega arith) (yes _ _ _ (cc) (at_most (get_or c.args.rec.now count_at 0) most_rejects _ _ (omega arith) (c.invocations_kept.ensures ∙ as_is _))))
 
 pub returns : goal.returns
 unfolding head_kept every place_by
 returns c =
-    let s = c.args.rec.now in
-    at_most (get_or s state_at 0) dialogue_active _ _ (omega arith) (below (get_or s service_at 0) services _ _ (omega arith) (no _ _ _ (cc) refl))
+    at_most (get_or c.args.rec.now state_at 0) dialogue_active _ _ (omega arith) (below (get_or c.args.rec.now service_at 0) services _ _ (omega arith) (no _ _ _ (cc) refl))

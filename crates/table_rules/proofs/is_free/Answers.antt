@@ -10,11 +10,9 @@ use Rattle.table_rules.proofs.is_free.Goals as goal
 
 pub returns-then-state-ne-DIALOGUE_FREE : goal.returns-then-state-ne-DIALOGUE_FREE
 returns-then-state-ne-DIALOGUE_FREE c =
-    let e = c.slot-rec.ensures.is in
-    kind-used _ _ (λ z. c.if-state-ne-DIALOGUE_FREE.true (c.state.ensures ∙ z)) ∙ ap (λ (k : ℕ). eqb k free_kind) (kind-here c.args.t.now _ c.args.p _ e refl)
+    kind-used _ _ (λ z. c.if-state-ne-DIALOGUE_FREE.true (c.state.ensures ∙ z)) ∙ ap (λ (k : ℕ). eqb k free_kind) (kind-here c.args.t.now _ c.args.p _ c.slot-rec.ensures.is refl)
 
 pub returns : goal.returns
 unfolding free_kept
 returns c =
-    let e = c.slot-rec.ensures.is in
-    c.free_kept.ensures ∙ eq _ _ _ _ refl refl ∙ kind-free _ 1 (omega arith) ∙ ap (λ (k : ℕ). eqb k free_kind) (kind-here c.args.t.now _ c.args.p 1 e (seen-free c.args.t.now _ c.args.p e (omega arith)))
+    c.free_kept.ensures ∙ eq _ _ _ _ refl refl ∙ kind-free _ 1 (omega arith) ∙ ap (λ (k : ℕ). eqb k free_kind) (kind-here c.args.t.now _ c.args.p 1 c.slot-rec.ensures.is (seen-free c.args.t.now _ c.args.p c.slot-rec.ensures.is (omega arith)))

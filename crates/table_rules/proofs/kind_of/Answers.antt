@@ -18,13 +18,11 @@ returns-then-state-eq-DIALOGUE_FREE c =
 pub returns-then-used_kept : goal.returns-then-used_kept
 unfolding kind_of
 returns-then-used_kept c =
-    let e = c.slot-rec.ensures.is in
     c.service.ensures ∙ ne _ _ _ _ (λ h. omega arith) (yes _ _ _ (cc) refl)
-    ∙ kind-here c.args.t.now _ c.args.p 0 e (sym c.if-bit_at-ne0.false ∙ c.bit_at.ensures.0 ∙ seen-used c.args.t.now _ c.args.p e (λ h. omega arith))
+    ∙ kind-here c.args.t.now _ c.args.p 0 c.slot-rec.ensures.is (sym c.if-bit_at-ne0.false ∙ c.bit_at.ensures.0 ∙ seen-used c.args.t.now _ c.args.p c.slot-rec.ensures.is (λ h. omega arith))
 
 pub returns : goal.returns
 unfolding kind_of
 returns c =
-    let e = c.slot-rec.ensures.is in
     ne _ _ _ _ (λ h. omega arith) (no _ _ _ (cc) refl)
-    ∙ kind-here c.args.t.now _ c.args.p 0 e (sym c.if-bit_at-ne0.false ∙ c.bit_at.ensures.0 ∙ seen-used c.args.t.now _ c.args.p e (λ h. omega arith))
+    ∙ kind-here c.args.t.now _ c.args.p 0 c.slot-rec.ensures.is (sym c.if-bit_at-ne0.false ∙ c.bit_at.ensures.0 ∙ seen-used c.args.t.now _ c.args.p c.slot-rec.ensures.is (λ h. omega arith))

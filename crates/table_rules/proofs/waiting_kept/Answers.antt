@@ -24,28 +24,19 @@ loop-c-init c =
 pub returns-then-c-ne-NO_FAULT : goal.returns-then-c-ne-NO_FAULT
 returns-then-c-ne-NO_FAULT c =
     let w : List ℕ = c.args.w.now in
-    let r = c.component_at-c.ensures in
-    let k = c.component_at-c.result in
-    rest-fails is_sound_item w c.loop-c.at c.loop-c.invariant.1 k r.0 (sound-item c.loop-c.at k false (ne_eqb k.fault no_fault c.if-c-ne-NO_FAULT.true)) ∙ some-wait w (λ h. omega arith)
+    rest-fails is_sound_item w c.loop-c.at c.loop-c.invariant.1 c.component_at-c.result c.component_at-c.ensures.is (sound-item c.loop-c.at c.component_at-c.result false (ne_eqb c.component_at-c.result.fault no_fault c.if-c-ne-NO_FAULT.true)) ∙ some-wait w (λ h. omega arith)
 
 pub returns-then-at-n : goal.returns-then-at-n
 returns-then-at-n c =
     let w : List ℕ = c.args.w.now in
-    let r = c.component_at-c.ensures in
-    let k = c.component_at-c.result in
-    let s = c.if-c-ne-NO_FAULT.false in
-    rest_end is_sound_item w c.loop-c.at c.loop-c.invariant.1 k r.0 (sound-item c.loop-c.at k true (eq-eqb k.fault no_fault s)) s (omega arith) ∙ some-wait w (λ h. omega arith)
+    rest_end is_sound_item w c.loop-c.at c.loop-c.invariant.1 c.component_at-c.result c.component_at-c.ensures.is (sound-item c.loop-c.at c.component_at-c.result true (eq-eqb c.component_at-c.result.fault no_fault c.if-c-ne-NO_FAULT.false)) c.if-c-ne-NO_FAULT.false (omega arith) ∙ some-wait w (λ h. omega arith)
 
 pub loop-c-smaller : goal.loop-c-smaller
 loop-c-smaller c =
     let w : List ℕ = c.args.w.now in
-    let r = c.component_at-c.ensures in
-    omega (arith, r.1.long c.if-c-ne-NO_FAULT.false)
+    omega (arith, c.component_at-c.ensures.within.long c.if-c-ne-NO_FAULT.false)
 
 pub loop-c-preserved : goal.loop-c-preserved
 loop-c-preserved c =
     let w : List ℕ = c.args.w.now in
-    let r = c.component_at-c.ensures in
-    let k = c.component_at-c.result in
-    let s = c.if-c-ne-NO_FAULT.false in
-    (omega arith, rest_more is_sound_item w c.loop-c.at c.loop-c.invariant.1 k r.0 (sound-item c.loop-c.at k true (eq-eqb k.fault no_fault s)) s (omega arith) (omega (arith, r.1.long s)))
+    (omega arith, rest_more is_sound_item w c.loop-c.at c.loop-c.invariant.1 c.component_at-c.result c.component_at-c.ensures.is (sound-item c.loop-c.at c.component_at-c.result true (eq-eqb c.component_at-c.result.fault no_fault c.if-c-ne-NO_FAULT.false)) c.if-c-ne-NO_FAULT.false (omega arith) (omega (arith, c.component_at-c.ensures.within.long c.if-c-ne-NO_FAULT.false)))

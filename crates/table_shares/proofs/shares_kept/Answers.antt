@@ -11,13 +11,10 @@ loop-k-init c =
 
 pub loop-k-preserved : goal.loop-k-preserved
 loop-k-preserved c =
-    let s = c.share_at-share.ensures in
-    let n = c.number-count.ensures in
-    let l = c.loop-k in
     (
       search rules,
-      walk_more _ l.invariant.1 s.0 (c.beyond-unused.ensures ∙ rw (s.0, n.0)) (c.higher.ensures ∙ rw (s.0, n.0))
-          (c.beyond.ensures ∙ rw s.1) (c.beyond-in-loop-k.ensures ∙ rw s.1),
+      walk_more _ c.loop-k.invariant.1 c.share_at-share.ensures.0 (c.beyond-unused.ensures ∙ rw (c.share_at-share.ensures.0, c.number-count.ensures.0)) (c.higher.ensures ∙ rw (c.share_at-share.ensures.0, c.number-count.ensures.0))
+          (c.beyond.ensures ∙ rw c.share_at-share.ensures.1) (c.beyond-in-loop-k.ensures ∙ rw c.share_at-share.ensures.1),
       search rules,
       search rules,
       search rules,
