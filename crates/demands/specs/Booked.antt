@@ -96,7 +96,7 @@ pub record Followed (t : List ℕ) (L : Ledger) (ms : List Made) : Type 0 where
 
 pub follows : (T : Table) → Fine T → (L : Ledger) → Agrees T L → (ms : List Made) → AllFormed ms → Followed (encode T) L ms
 follows T f L g [] o = record { to = T; fine = f; table = refl; agrees = g }
-follows T f L g (m ∷ ms) o = on (booked T f L g m o.0) (follows _ (booked T f L g m o.0).fine _ (booked T f L g m o.0).agrees ms o.1)
+follows T f L g (m ∷ ms) o = on (booked T f L g m o.0) (follows (booked T f L g m o.0).to (booked T f L g m o.0).fine _ (booked T f L g m o.0).agrees ms o.1)
   where
     on : (b : Booked T L m (gave (encode T) m)) → Followed (encode b.to) (played L m.call (told (gave (encode T) m))) ms → Followed (encode T) L (m ∷ ms)
     on b k = record {

@@ -5,7 +5,7 @@ use Rattle.call_entry.specs.Replies.{only, left_as}
 use Rattle.paper.specs.Layout.{view}
 use Rattle.paper.specs.Calls.{place_at}
 use Rattle.paper.specs.Invocations.{to_idle}
-use Rattle.paper.specs.Dialogues.{with_control, rules as needs_state}
+use Rattle.paper.specs.Dialogues.{with_control, needs as needs_state}
 use native.Mathlib.Omega.{arith}
 use mathlib.Core.Path.{sym, ap, ◌∙◌}
 use Rattle.call_release.proofs.idle.Goals as goal

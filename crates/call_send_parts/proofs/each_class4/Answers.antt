@@ -16,19 +16,19 @@ pub returns-then-not-of_class4 : goal.returns-then-not-of_class4
 returns-then-not-of_class4 c =
     let w : List ℕ = c.args.w.now in
     let is = class4-at c.args.c c.component_at-k.result c.loop-c.at in
-    rest-fails (of_class4 c.args.c) w c.loop-c.at c.loop-c.invariant c.component_at-k.result c.component_at-k.ensures.is (is ∙ sym c.of_class4.ensures ∙ not-true _ c.if-not-of_class4.true)
+    rest-fails (of_class4 c.args.c) w c.loop-c.at c.loop-c.invariant c.component_at-k.result c.component_at-k.ensures.is (is ∙ sym c.of_class4.ensures ∙ c.if-not-of_class4.true)
 
 pub returns-then-at-n : goal.returns-then-at-n
 returns-then-at-n c =
     let w : List ℕ = c.args.w.now in
     let is = class4-at c.args.c c.component_at-k.result c.loop-c.at in
-    let y = sym c.of_class4.ensures ∙ not-false _ c.if-not-of_class4.false in
+    let y = sym c.of_class4.ensures ∙ c.if-not-of_class4.false in
     let s = class4-sound c.args.c c.component_at-k.result y in
     rest_end (of_class4 c.args.c) w c.loop-c.at c.loop-c.invariant c.component_at-k.result c.component_at-k.ensures.is (is ∙ y) s (omega arith)
 
 pub loop-c-smaller : goal.loop-c-smaller
 loop-c-smaller c =
-    let y = sym c.of_class4.ensures ∙ not-false _ c.if-not-of_class4.false in
+    let y = sym c.of_class4.ensures ∙ c.if-not-of_class4.false in
     let s = class4-sound c.args.c c.component_at-k.result y in
     omega (arith, c.component_at-k.ensures.within.long s)
 
@@ -36,6 +36,6 @@ pub loop-c-preserved : goal.loop-c-preserved
 loop-c-preserved c =
     let w : List ℕ = c.args.w.now in
     let is = class4-at c.args.c c.component_at-k.result c.loop-c.at in
-    let y = sym c.of_class4.ensures ∙ not-false _ c.if-not-of_class4.false in
+    let y = sym c.of_class4.ensures ∙ c.if-not-of_class4.false in
     let s = class4-sound c.args.c c.component_at-k.result y in
     rest_more (of_class4 c.args.c) w c.loop-c.at c.loop-c.invariant c.component_at-k.result c.component_at-k.ensures.is (is ∙ y) s (omega arith) (omega (arith, c.component_at-k.ensures.within.long s))

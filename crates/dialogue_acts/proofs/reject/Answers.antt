@@ -14,4 +14,4 @@ returns-then-problem-lt2 c =
 pub returns : goal.returns
 unfolding rejects
 returns c =
-    record { is = λ d e. stays-shown d _ _ _ _ c.stays.ensures.is (λ h. omega arith) ∙ ap (λ (c.reject_kind-kind.ensures : ℕ). acted d c.reject_kind-kind.ensures c.args.problem) c.reject_kind-kind.ensures.is ∙ ge _ _ _ _ (omega arith) refl; low = omega arith }
+    record { is = λ d e. stays-shown d _ _ _ _ c.stays.ensures.is (λ h. omega arith) ∙ ap (λ (k : ℕ). acted d k c.args.problem) c.reject_kind-kind.ensures.is ∙ ge _ _ _ _ (omega arith) refl; low = omega arith }
