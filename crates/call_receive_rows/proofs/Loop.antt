@@ -73,14 +73,14 @@ module _ (me room : ℕ) where
   pub answer-control : (c : Control) (k : ℕ) (l : List ℕ) (is : List Item) → (answer c k l is).control ≡ all_acted room c is
   unfolding all_acted
   answer-control c k l [] = refl
-  answer-control c k l (i ∷ is) = answer-control _ _ _ is
+  answer-control c k l (i ∷ is) = answer-control (act room c i.part).control _ _ is
 
   pub answer-count : (c : Control) (k : ℕ) (l : List ℕ) (is : List Item) → (answer c k l is).count ≡ k + length (component_rows me room c is)
   unfolding component_rows
   answer-count c k l [] = omega arith
   answer-count c k l (i ∷ is) =
       let e : (answer c k l (i ∷ is)).count ≡ (k + 1) + length (component_rows me room (act room c i.part).control is) =
-      answer-count _ _ _ is in
+      answer-count (act room c i.part).control _ _ is in
       omega arith
 
   pub answer-space : (c : Control) (k : ℕ) (l : List ℕ) (is : List Item) → (answer c k l is).space ≡ sets l (k * 32) (rows_octets (component_rows me room c is))
@@ -88,7 +88,7 @@ module _ (me room : ℕ) where
   answer-space c k l [] = refl
   answer-space c k l (i ∷ is) =
       let e : (k + 1) * 32 ≡ k * 32 + length (row_octets (row_by me room c i)) = omega arith in
-      answer-space _ _ _ is
+      answer-space (act room c i.part).control _ _ is
       ∙ ap (λ (p : ℕ). sets (sets l (k * 32) (row_octets (row_by me room c i))) p (rows_octets (component_rows me room (act room c i.part).control is))) e
       ∙ join l (k * 32) (row_octets (row_by me room c i)) (rows_octets (component_rows me room (act room c i.part).control is))
 
