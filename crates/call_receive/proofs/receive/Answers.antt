@@ -21,4 +21,4 @@ receive-r-requires c =
 
 pub returns : goal.returns
 returns c =
-    is-done (record { c.table-1 = c.args.table.now; c.rows-1 = c.args.rows.now; c.space-1 = c.args.space.now }) c.args.service c.args.message.now (c.enter-e.ensures.inside c.if-answer-ne0.false).within (omega (arith, c.if-n-eq0.false)) (omega (arith, c.if-n-gt-LONGEST_MESSAGE.false)) c.receive-r.ensures c.done.ensures
+    is-done (record { table = c.args.table.now; rows = c.args.rows.now; space = c.args.space.now }) c.args.service c.args.message.now (c.enter-e.ensures.inside c.if-answer-ne0.false).within (omega (arith, c.if-n-eq0.false)) (omega (arith, c.if-n-gt-LONGEST_MESSAGE.false)) c.receive-r.ensures c.done.ensures
