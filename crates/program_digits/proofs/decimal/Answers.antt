@@ -6,4 +6,4 @@ use Rattle.program_digits.proofs.decimal.Goals as goal
 
 pub returns : goal.returns
 returns c =
-    said-as c.word.ensures (c.decimal-k.ensures.1.1 ∙ printed c.args.n c.decimal-k.result (omega arith) c.decimal-k.ensures.1.0)
+    said-as c.word.ensures (c.decimal-k.ensures.digits ∙ printed c.args.n c.decimal-k.result (omega arith) c.decimal-k.ensures.len)

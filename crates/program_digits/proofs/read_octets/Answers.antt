@@ -11,7 +11,7 @@ decode-requires c =
 pub returns-then-is_hex : goal.returns-then-is_hex
 unfolding decoded
 returns-then-is_hex c =
-    (sym c.if-is_hex.true ∙ c.is_hex.ensures, yes _ _ _ (sym c.is_hex.ensures ∙ c.if-is_hex.true) c.decode.ensures, c.?line2.given)
+    (sym c.if-is_hex.true ∙ c.is_hex.ensures, yes _ _ _ (sym c.is_hex.ensures ∙ c.if-is_hex.true) c.decode.ensures, c.decode.auto.line)
 
 pub returns : goal.returns
 unfolding decoded

@@ -4,7 +4,7 @@ use Rattle.program_digits.specs.Back.{decimal-few}
 use Rattle.program_lines.proofs.bad.Goals as goal
 
 pub returns : goal.returns
-returns c =
+returns g c =
     omega (
   arith,
   c.say.ensures,
