@@ -3,7 +3,7 @@ use Rattle.read.specs.Line.{LineIn}
 use Rattle.read.proofs.read_lines.Given as goal
 
 abbrev pub invariant-loop-turns : goal.invariant-loop-turns
-invariant-loop-turns l = LineIn (length l.octets) l.l × (length l.octets ≡ length l.initial.octets)
+invariant-loop-turns g l = LineIn (length l.octets) l.l × (length l.octets ≡ length l.initial.octets)
 
 abbrev pub decreases-loop-turns : goal.decreases-loop-turns
-decreases-loop-turns l = l.turns
+decreases-loop-turns g l = l.turns

@@ -2,7 +2,7 @@ use Prim.Native.Nat.{◌-◌, ◌≤◌}
 use Rattle.program_replay.proofs.show.row_lines.Given as goal
 
 abbrev pub invariant-loop-k : goal.invariant-loop-k
-invariant-loop-k l = l.k ≤ l.count
+invariant-loop-k g l = l.k ≤ l.count
 
 abbrev pub decreases-loop-k : goal.decreases-loop-k
-decreases-loop-k l = l.count - l.k
+decreases-loop-k g l = l.count - l.k
