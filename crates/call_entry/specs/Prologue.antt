@@ -13,8 +13,9 @@ use Rattle.call_entry.specs.declared.Spaces as given
 use Rattle.table_laws.specs.Fine.{FineControl, FinePlace}
 use Rattle.table_places.specs.Storing.{Storing}
 use Rattle.table_laws.specs.Ready.{Ready}
-use Rattle.table_laws.specs.Owners.{owned-is}
-use Rattle.table_laws.specs.Counts.{free-there, lowest-is-free}
+use Rattle.table_laws.proofs.Owners.{owned-is}
+use Rattle.table_laws.proofs.Counts.{lowest-is-free}
+use Rattle.table_laws.proofs.Lowest.{free-there}
 use Rattle.table_shares.specs.Share.{gives-room}
 use Rattle.table_shares.specs.Telling.{Told}
 use Rattle.table_rules.specs.Checking.{table_answer, Passed}

@@ -10,8 +10,8 @@ use Rattle.paper.specs.Calls.{Out, place_at, with_place, may_begin, lowest_free,
 use Rattle.paper.specs.Calls.Call.{Open}
 use Rattle.paper.specs.Layout.{flag, encode, view}
 use Rattle.paper.specs.Outcome.{no_space, outcome}
-use Rattle.table_laws.specs.Zeros.{zeros_of}
-use Rattle.table_laws.specs.Keeps.{peers, begun-fine}
+use Rattle.table_laws.proofs.Zeros.{zeros_of}
+use Rattle.table_laws.proofs.Keeps.{peers, begun-fine}
 use Rattle.table_places.specs.Storing.{Storing, with_waiting}
 use Rattle.call_entry.specs.declared.Reply.{Reply}
 use Rattle.call_entry.specs.Replies.{reply, Told, only}

@@ -9,7 +9,7 @@ use Rattle.paper.specs.Sizes.{most_waiting}
 use Rattle.paper.specs.Calls.{place_at, with_place}
 use Rattle.paper.specs.Layout.{place_start, waiting_start, table_size, encode, view}
 use Rattle.table_laws.specs.Octets.{waiting_from, control_octets}
-use Rattle.table_laws.specs.Stores.{passed-octets}
+use Rattle.table_laws.proofs.Stores.{passed-octets}
 use Rattle.table_places.specs.Storing.{Storing, with_waiting}
 
 -- c is to be stored with the component l, where n octets wait

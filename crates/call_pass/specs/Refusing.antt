@@ -15,7 +15,7 @@ use Rattle.paper.specs.Calls.{place_at}
 use Rattle.paper.specs.Layout.{view}
 use Rattle.writing_octets.specs.Lengths.{element_size, result_size, plain_size, linked-size, invoke-length, result-length, error-length, reject-length, some_size}
 use Rattle.call_given.specs.Pieces.{pieces_refusal, both_refusal}
-use Rattle.table_laws.specs.Keeps.{passed-fine, to-state-fine}
+use Rattle.table_laws.proofs.Keeps.{passed-fine, to-state-fine}
 use Rattle.table_places.specs.Storing.{Storing}
 use Rattle.call_entry.specs.Prologue.{Used, used-storing}
 

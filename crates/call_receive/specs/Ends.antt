@@ -11,7 +11,7 @@ use Rattle.paper.specs.Calls.{Table, Out, refuse, faulted_at, faulted, uni_recei
 use Rattle.paper.specs.Calls.Call.{Receive}
 use Rattle.paper.specs.Layout.{view}
 use Rattle.paper.specs.Outcome.{Lent, outcome, spaces_for}
-use Rattle.demand_kept.specs.Leaves.{whether-eq, whether-b}
+use Rattle.demand_kept.proofs.Leaves.{whether-eq, whether-b}
 use Rattle.call_entry.specs.declared.Reply.{Reply}
 use Rattle.call_entry.specs.Replies.{reply, Told, lent_same}
 use Rattle.call_entry.specs.Prologue.{entry_of, Within}

@@ -24,12 +24,14 @@ use Rattle.paper.specs.Dialogues.{begun, freed, with_control, empty_control, dia
 use Rattle.paper.specs.Calls.{Table, Out, refuse, shows, place_at, with_place, owns, octets_at, destination_number, assigned, faulted_at, faulted, items_of, uni_received, begun_control, begin_at, continued_control, continue_received, end_received, abort_received, lowest_free}
 use Rattle.paper.specs.Layout.{encode, view}
 use Rattle.table_laws.specs.Fine.{FineControl}
-use Rattle.table_laws.specs.Slots.{flag-free}
+use Rattle.table_laws.proofs.Slots.{flag-free}
 use Rattle.table_laws.specs.Ready.{Ready}
-use Rattle.table_laws.specs.Owners.{Owned, owned-is}
-use Rattle.demand_kept.specs.Leaves.{whether-eq}
-use Rattle.demand_kept.specs.Acts.{AllReadable, Stays, all-acted-stays, components-readable}
-use Rattle.demand_kept.specs.StepKept.{begun-control-fine, continued-fine}
+use Rattle.table_laws.specs.Owners.{Owned}
+use Rattle.table_laws.proofs.Owners.{owned-is}
+use Rattle.demand_kept.proofs.Leaves.{whether-eq}
+use Rattle.demand_kept.specs.Acts.{AllReadable, Stays}
+use Rattle.demand_kept.proofs.Acts.{all-acted-stays, components-readable}
+use Rattle.demand_kept.proofs.StepKept.{begun-control-fine, continued-fine}
 use Rattle.table_places.specs.Storing.{Storing, with_waiting}
 use Rattle.reading_components.specs.Bounds.{component-in}
 use Rattle.writing_octets.specs.Lengths.{element-length, length-small}

@@ -14,7 +14,7 @@ use Rattle.call_release.specs.declared.Idler.{Idler}
 use Rattle.call_release.specs.declared.Idler.TheVariants.{User, RejectTimer}
 use Rattle.paper.specs.Calls.{place_at, with_place}
 use Rattle.paper.specs.Layout.{encode, view}
-use Rattle.table_laws.specs.Keeps.{to-idle-fine}
+use Rattle.table_laws.proofs.Keeps.{to-idle-fine}
 use Rattle.table_places.specs.Storing.{Storing}
 use Rattle.call_entry.specs.Prologue.{Used, used-storing}
 

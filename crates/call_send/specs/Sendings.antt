@@ -23,7 +23,7 @@ use Rattle.call_entry.specs.Replies.{reply, Told, with_space}
 use Rattle.call_entry.specs.Prologue.{InDialogue}
 use Rattle.call_entry.specs.Ends.{has, no_rows, dialogue-done}
 use Rattle.writing_portions.specs.Forms.{form_for, form-2, form-3, form-5}
-use Rattle.table_laws.specs.Keeps.{begin-peer, continue-peer}
+use Rattle.table_laws.proofs.Keeps.{begin-peer, continue-peer}
 use Rattle.call_send_parts.specs.Sent.{Holds, Sendable}
 use Rattle.call_send.specs.declared.Sending.{Sending}
 use Rattle.call_send.specs.declared.Sending.TheVariants.{ABegin, AContinue, AnEnd, AUnidirectional}

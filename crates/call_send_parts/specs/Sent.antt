@@ -16,9 +16,9 @@ use Rattle.paper.specs.Dialogues.{Place, no_reject, with_state, without_rejects,
 use Rattle.paper.specs.Calls.{place_at}
 use Rattle.paper.specs.Layout.{flag, view}
 use Rattle.table_laws.specs.Fine.{FineControl, FinePlace}
-use Rattle.table_laws.specs.Kept.{layer-small}
+use Rattle.table_laws.proofs.Kept.{layer-small}
 use Rattle.table_laws.specs.Ready.{Ready}
-use Rattle.table_laws.specs.Keeps.{with-state-fine, without-rejects-fine, transmitted-fine, sent-only}
+use Rattle.table_laws.proofs.Keeps.{with-state-fine, without-rejects-fine, transmitted-fine, sent-only}
 use Rattle.table_places.specs.Storing.{Storing, with_waiting}
 use Rattle.writing_octets.specs.Lengths.{reject_size, reject-length}
 

@@ -1,13 +1,6 @@
-pub mod Leaves
 pub mod Acts
 pub mod Carried
 pub mod Listed
-pub mod Waiting
-pub mod Portions
 pub mod Requests
-pub mod Shapes
-pub mod Counted
 pub mod Shared
 pub mod StepKept
-pub mod Fresh
-pub mod Tables

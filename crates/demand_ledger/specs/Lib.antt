@@ -3,10 +3,8 @@ pub mod Ours
 pub mod Entries
 pub mod Agrees
 pub mod Acting
-pub mod Sending
 pub mod Portions
 pub mod Read
 pub mod Requests
-pub mod Received
-pub mod StepPlayed
 pub mod Homes
+pub mod Received

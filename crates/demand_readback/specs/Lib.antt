@@ -2,12 +2,6 @@ pub mod Standing
 pub mod Written
 pub mod Given
 pub mod Pieces
-pub mod Kinds
-pub mod Listing
-pub mod Reading
-pub mod Order
-pub mod Places
-pub mod Contents
 pub mod Upto
 pub mod Pdus
 pub mod Shells

@@ -4,10 +4,7 @@ pub mod Small
 pub mod Fits
 pub mod Tails
 pub mod Applies
-pub mod Lowest
-pub mod Begins
 pub mod History
 pub mod Booked
 pub mod Replies
-pub mod Portions
 pub mod Demands

@@ -56,7 +56,7 @@ module _ {A : Type 0} where
   sized-take (f ∷ fs) x s zero = tt
   sized-take (f ∷ fs) x s (suc i) = (s.0, sized-take fs x s.1 i)
 
-  laid_cons : (f : Field A) (fs : List (Field A)) (x : A) → laid_out (f ∷ fs) x ≡ f.octets x ++ laid_out fs x
+  pub laid_cons : (f : Field A) (fs : List (Field A)) (x : A) → laid_out (f ∷ fs) x ≡ f.octets x ++ laid_out fs x
   laid_cons f [] x = sym (append-nil (f.octets x))
   laid_cons f (g ∷ fs) x = refl
 
@@ -108,25 +108,6 @@ module _ {A : Type 0} where
   Becomes [] i k v x y = ⊥
   Becomes (f ∷ fs) zero k v x y = (k + length v ≤ length (f.octets x)) × (over (f.octets x) k v ≡ f.octets y) × (laid_out fs x ≡ laid_out fs y)
   Becomes (f ∷ fs) (suc i) k v x y = (f.octets x ≡ f.octets y) × Becomes fs i k v x y
-
-  pub field-over : (fs : List (Field A)) (x y : A) → Sized fs x → (i k : ℕ) (v : List ℕ) → Becomes fs i k v x y → over (laid_out fs x) (offset fs i + k) v ≡ laid_out fs y
-  field-over [] x y s i k v b = absurd b
-  field-over (f ∷ fs) x y s zero k v b =
-      let z : 0 + k ≡ k = omega arith in
-      ap (λ (j : ℕ). over (laid_out (f ∷ fs) x) j v) z
-      ∙ ap (λ (l : List ℕ). over l k v) (laid_cons f fs x)
-      ∙ stay (f.octets x) (laid_out fs x) k v b.0
-      ∙ ap (λ (l : List ℕ). l ++ laid_out fs x) b.1
-      ∙ ap (λ (l : List ℕ). f.octets y ++ l) b.2
-      ∙ sym (laid_cons f fs y)
-  field-over (f ∷ fs) x y s (suc i) k v b =
-      let z : f.width + offset fs i + k ≡ length (f.octets x) + (offset fs i + k) = omega (arith, s.0) in
-      ap (λ (j : ℕ). over (laid_out (f ∷ fs) x) j v) z
-      ∙ ap (λ (l : List ℕ). over l (length (f.octets x) + (offset fs i + k)) v) (laid_cons f fs x)
-      ∙ shift (f.octets x) (laid_out fs x) (offset fs i + k) v
-      ∙ ap (λ (l : List ℕ). f.octets x ++ l) (field-over fs x y s.1 i k v b.1)
-      ∙ ap (λ (l : List ℕ). l ++ laid_out fs y) b.0
-      ∙ sym (laid_cons f fs y)
 
   -- each field of x is the next part of s, from a on
   abbrev pub Reads : List (Field A) → A → ℕ → List ℕ → Type 0

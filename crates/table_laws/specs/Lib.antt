@@ -1,14 +1,8 @@
-pub mod Zeros
 pub mod Fine
-pub mod Kept
 pub mod Octets
 pub mod Slots
 pub mod Whole
 pub mod Ready
-pub mod Counts
-pub mod Stores
 pub mod Owners
-pub mod Changes
 pub mod Invocations
-pub mod Keeps
 pub mod Following

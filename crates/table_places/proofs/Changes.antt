@@ -13,11 +13,12 @@ use Rattle.paper.specs.Dialogues.{Place, empty_place, with_control, freed}
 use Rattle.paper.specs.Calls.{place_at, with_place}
 use Rattle.paper.specs.Layout.{place_start, place_octets, place_size, waiting_start, place_by, flag, encode, view, map_bit}
 use Rattle.table_map.specs.Map.{with_bit, without_bit}
-use Rattle.table_laws.specs.Zeros.{pad-none}
-use Rattle.table_laws.specs.Octets.{waiting_from, control_octets, place_octets-length}
-use Rattle.table_laws.specs.Slots.{empty-fine}
+use Rattle.table_laws.proofs.Zeros.{pad-none}
+use Rattle.table_laws.specs.Octets.{waiting_from, control_octets}
+use Rattle.table_laws.proofs.Octets.{place_octets-length}
+use Rattle.table_laws.proofs.Slots.{empty-fine}
 use Rattle.table_laws.specs.Ready.{Ready}
-use Rattle.table_laws.specs.Stores.{stored-octets, begun-octets, sent-octets, freed-octets, bit-stays}
+use Rattle.table_laws.proofs.Stores.{stored-octets, begun-octets, sent-octets, freed-octets, bit-stays}
 use Rattle.table_places.specs.Storing.{Storing, with_waiting}
 use Rattle.table_places.proofs.Laws.{lent, lent-place}
 

@@ -14,9 +14,11 @@ use Rattle.paper.specs.Sizes.{places_in_all, most_waiting, place_of, turn_of}
 use Rattle.paper.specs.Dialogues.{Place}
 use Rattle.paper.specs.Calls.{place_at, is_free, is_dialogue, owns}
 use Rattle.paper.specs.Layout.{place_start, place_size, waiting_length_at, waiting_start, control_by, place_by, slot, view}
-use Rattle.table_laws.specs.Octets.{waiting_from, length_at}
-use Rattle.table_laws.specs.Whole.{view-at}
-use Rattle.table_laws.specs.Ready.{Ready, ready-slot}
+use Rattle.table_laws.specs.Octets.{waiting_from}
+use Rattle.table_laws.proofs.Octets.{length_at}
+use Rattle.table_laws.proofs.Whole.{view-at}
+use Rattle.table_laws.specs.Ready.{Ready}
+use Rattle.table_laws.proofs.Ready.{ready-slot}
 
 -- the part of the table that is lent for place p
 abbrev pub lent : List ℕ → ℕ → List ℕ

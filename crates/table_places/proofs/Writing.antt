@@ -19,8 +19,9 @@ use Rattle.paper.specs.Invocations.{no_invocation}
 use Rattle.paper.specs.Dialogues.{Place, no_reject}
 use Rattle.paper.specs.Layout.{invocation_mark, invocation_octets, reject_mark, waiting_reject_octets, place_fields, invocations_field, waiting_field, place_start, first_invocation, first_reject, table_size}
 use Rattle.table_laws.specs.Fine.{FineInvocation, FineControl}
-use Rattle.table_laws.specs.Octets.{SmallReject, rejects-small, control_octets, control_octets-length, four-octets}
-use Rattle.table_laws.specs.Stores.{sets_over}
+use Rattle.table_laws.specs.Octets.{SmallReject, control_octets}
+use Rattle.table_laws.proofs.Octets.{rejects-small, control_octets-length, four-octets}
+use Rattle.table_laws.proofs.Stores.{sets_over}
 use Rattle.table_places.specs.Made.{head_with, head_octets, made_invocation, invocation_pairs, made_reject, reject_pairs}
 
 -- ---- PAIRS MADE ONE BY ONE: those of the first i of a list are made, n in all, the others are of d

@@ -16,10 +16,13 @@ use Rattle.paper.specs.Layout.{place_size, place_start, table_size, map_size, st
 use Rattle.paper.specs.Rules.{shares_of_table, rules}
 use Rattle.paper.specs.Outcome.{Lent, Spaces, standing}
 use Rattle.table_laws.specs.Fine.{Octets, FinePlace}
-use Rattle.table_laws.specs.Slots.{KeptSlot, slot_is, place_is}
-use Rattle.table_laws.specs.Whole.{slot_at_kept, view-at, view-length, slot-length, take-octets, drop-octets}
-use Rattle.table_laws.specs.Ready.{Ready, ready, rules-walk}
-use Rattle.table_laws.specs.Counts.{places-all, walk-count}
+use Rattle.table_laws.specs.Slots.{KeptSlot}
+use Rattle.table_laws.proofs.Slots.{slot_is, place_is}
+use Rattle.table_laws.specs.Whole.{slot_at_kept}
+use Rattle.table_laws.proofs.Whole.{view-at, view-length, slot-length, take-octets, drop-octets}
+use Rattle.table_laws.specs.Ready.{Ready}
+use Rattle.table_laws.proofs.Ready.{ready, rules-walk}
+use Rattle.table_laws.proofs.Counts.{places-all, walk-count}
 use Rattle.table_shares.specs.Share.{Sound, kept-sound}
 use Rattle.table_shares.specs.Telling.{Parted}
 use Rattle.table_rules.specs.Kinds.{seen_bit, slot_seen, seen-free, seen-used, seen-kept, kept_seen}

@@ -2,7 +2,7 @@ use native.Mathlib.Omega.{arith}
 use mathlib.Core.Path.{refl, sym, ◌∙◌}
 use Rattle.laws.specs.If.{ne}
 use Rattle.paper.specs.Calls.{assigned}
-use Rattle.table_laws.specs.Owners.{owned-is}
+use Rattle.table_laws.proofs.Owners.{owned-is}
 use Rattle.call_receive_parts.proofs.Laws.{assigned-open, assigned-other, assigned-none}
 use Rattle.call_receive_parts.proofs.assigned.Goals as goal
 

@@ -1,5 +1,5 @@
 use mathlib.Core.Path.{◌∙◌}
-use Rattle.table_laws.specs.Counts.{ready-lowest}
+use Rattle.table_laws.proofs.Counts.{ready-lowest}
 use Rattle.table_places.proofs.lowest_place.Goals as goal
 
 pub returns : goal.returns

@@ -1,5 +1,5 @@
 use Rattle.table_rules.proofs.Laws.{sound-item, some-wait}
-use Rattle.table_laws.specs.Following.{rest-start, rest-fails, rest_end, rest_more}
+use Rattle.table_laws.proofs.Following.{rest-start, rest-fails, rest_end, rest_more}
 use borrow.Author.Tests.{eq-eqb, ne_eqb}
 use Rattle.paper.specs.Components.{no_fault, waiting_items}
 use Rattle.paper.specs.Rules.{is_sound_item, waiting_kept}

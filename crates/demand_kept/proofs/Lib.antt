@@ -1,0 +1,13 @@
+pub mod Acts
+pub mod Carried
+pub mod Counted
+pub mod Fresh
+pub mod Leaves
+pub mod Listed
+pub mod Portions
+pub mod Requests
+pub mod Shapes
+pub mod Shared
+pub mod StepKept
+pub mod Tables
+pub mod Waiting

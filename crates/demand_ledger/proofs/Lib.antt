@@ -1,0 +1,12 @@
+pub mod Acting
+pub mod Agrees
+pub mod Entries
+pub mod Homes
+pub mod Lookups
+pub mod Ours
+pub mod Portions
+pub mod Read
+pub mod Received
+pub mod Requests
+pub mod Sending
+pub mod StepPlayed

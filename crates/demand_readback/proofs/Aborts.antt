@@ -1,0 +1,49 @@
+-- AN ABORT'S PORTION, read back: user information, or a whole portion. Assumes nothing.
+use Rattle.std.proofs.Common.{arith, ◌∙◌, inl}
+use Rattle.std.specs.Prelude.{ℕ, ◌+◌, ◌<◌, ◌≤◌, ◌≡◌, true, List, [], ◌∷◌, ◌++◌, length, get_or}
+use Rattle.std.proofs.Math.Path.{refl, sym, ap}
+use Rattle.laws.specs.Lists.{length_none}
+use Rattle.laws.specs.If.{eq, ne, yes, by-eq, either-eq}
+use Rattle.paper.specs.declared.Frame.{Frame}
+use Rattle.paper.specs.declared.Pdu.{Pdu}
+use Rattle.paper.specs.declared.Portion.{Portion}
+use Rattle.paper.specs.Sizes.{depths, most_waiting}
+use Rattle.paper.specs.Elements.{no_frame, is_element}
+use Rattle.paper.specs.Dialogues.{is_name, is_block, is_information, is_portion, is_abort, abort_portion}
+use Rattle.paper.specs.Ledger.{abort_spoken}
+use Rattle.paper.specs.Writing.{tlv}
+use Rattle.paper.specs.Portions.{structured, unstructured, no_value, Parts, Piece, Form, plain, accepts, aborts, aarq, aare, abrt, audt, forms, piece_octets, pieces_octets, portion_octets, portion_by, unread, all_pieces, external, pdu_of, in_form, read_by, portion_of, Spoken, parts_in, spoken_in, spoken_by}
+use Rattle.writing_octets.specs.Lengths.{element-length, id-of}
+use Rattle.demand_readback.specs.Standing.{begins}
+use Rattle.demand_readback.specs.Pdus.{seen, informed, taking, AllFormed, AllTold, taking_all}
+use Rattle.demand_readback.proofs.Pdus.{pieces-parts, pieces-took}
+use Rattle.demand_readback.specs.Shells.{core, Holding}
+use Rattle.demand_readback.proofs.Shells.{pdu_at, pdu, core-parts, form-other, form-tag, form-own, core_at, inmost, external-back, octets-first, octets-formed}
+use Rattle.demand_readback.proofs.Contents.{silent}
+use Rattle.demand_readback.specs.Upto.{Upto, around}
+use Rattle.demand_readback.proofs.Upto.{one-inner}
+use Rattle.demand_readback.specs.Spoken.{addressed, answered, aborted, blank}
+use Rattle.demand_readback.proofs.Spoken.{ours-abrt, portion-formed, no_name, block-information, abrt-spoken}
+
+-- or a whole portion, which says what it says
+module _ (given : List ℕ) (h : is_abort given ≡ true) (few : length (abort_portion given) ≤ most_waiting) where
+  abort-block : get_or given 0 0 ≡ 0xBE → (portion_by abrt [] given ≡ abort_portion given) × ((spoken_by abrt [] given ≡ abort_spoken given) × (is_block given ≡ true))
+  unfolding abort_portion abort_spoken is_abort
+  abort-block z = (eq _ _ _ _ z refl, (eq _ _ _ _ z refl, eq _ _ _ _ z refl ∙ h))
+
+  abort-whole : (get_or given 0 0 ≡ 0xBE → ⊥) → (given ≡ abort_portion given) × ((spoken_in given ≡ abort_spoken given) × (is_portion given ≡ true))
+  unfolding abort_portion abort_spoken is_abort
+  abort-whole z = (ne _ _ _ _ z refl, (ne _ _ _ _ z refl, ne _ _ _ _ z refl ∙ h))
+
+  pub abort-formed : is_portion (abort_portion given) ≡ true
+  abort-formed =
+      by-eq {A = ℕ} (get_or given 0 0) 0xBE 0 0 refl
+      (λ z _. let w = abort-block z in
+      sym (ap is_portion w.0) ∙ portion-formed ours-abrt [] given no_name (block-information given w.1.1) (omega (arith, few, ap length w.0)))
+      (λ z _. let w = abort-whole z in sym (ap is_portion w.0) ∙ w.1.1)
+
+  pub abort-spoken : spoken_in (abort_portion given) ≡ abort_spoken given
+  abort-spoken =
+      by-eq {A = ℕ} (get_or given 0 0) 0xBE 0 0 refl
+      (λ z _. let w = abort-block z in sym (ap spoken_in w.0) ∙ abrt-spoken given w.1.1 (omega (arith, few, ap length w.0)) ∙ w.1.0)
+      (λ z _. let w = abort-whole z in sym (ap spoken_in w.0) ∙ w.1.0)

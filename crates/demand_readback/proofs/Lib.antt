@@ -1,0 +1,14 @@
+pub mod Contents
+pub mod GivenLaws
+pub mod KindsLaws
+pub mod Listing
+pub mod Order
+pub mod Pdus
+pub mod Pieces
+pub mod Places
+pub mod Reading
+pub mod Shells
+pub mod Spoken
+pub mod Standing
+pub mod Upto
+pub mod Aborts

@@ -1,0 +1,12 @@
+pub mod Begins
+pub mod Booked
+pub mod Demands
+pub mod Fits
+pub mod History
+pub mod Lowest
+pub mod Portions
+pub mod Replies
+pub mod Rows
+pub mod Small
+pub mod Stands
+pub mod Tails

@@ -1,0 +1,14 @@
+pub mod Changes
+pub mod Counts
+pub mod Following
+pub mod Invocations
+pub mod Keeps
+pub mod Kept
+pub mod Octets
+pub mod Owners
+pub mod Ready
+pub mod Slots
+pub mod Stores
+pub mod Whole
+pub mod Zeros
+pub mod Lowest
