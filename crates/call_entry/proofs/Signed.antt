@@ -1,7 +1,7 @@
 -- A signed octet raised by 256 where it is negative. Assumes nothing.
 use mathlib.Core.Path.{◌≡◌, refl, sym, ap, subst, ◌∙◌}
 use mathlib.Core.Bool.{true, false}
-use Prim.Native.Nat.{suc, ◌-◌, ◌<◌}
+use Prim.Native.Nat.{suc, ◌<◌}
 use native.Mathlib.Omega.{arith}
 use borrow.Author.Tests.{le-ltb}
 use lib.IntN.{ℤ, ◌+ℤ◌, nat_abs}

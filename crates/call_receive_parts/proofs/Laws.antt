@@ -4,10 +4,9 @@ use mathlib.Core.Bool.{Bool, true, false}
 use mathlib.Core.List.{List, [], ◌∷◌, ◌++◌}
 use Prim.Native.Nat.{ℕ, zero, suc, ◌+◌, ◌-◌, ◌<◌, ◌≤◌}
 use native.Mathlib.Omega.{arith}
-use lib.Dec.{ltb}
 use lib.ListN.{length, get_or, take, drop, length-append, get_or-eq_default}
 use lib.Seq.{sets, get_or-take, get_or-drop}
-use Rattle.laws.specs.If.{if_eq, eq, ne, yes, no, by-eq, was-eq, was-yes, true-false}
+use Rattle.laws.specs.If.{if_eq, eq, ne, yes, no, was-eq, was-yes, true-false}
 use Rattle.laws.specs.Lists.{pad}
 use Rattle.laws.specs.Runs.{Wrote, join-before}
 use Rattle.paper.specs.declared.Message.{Message}
@@ -16,7 +15,7 @@ use Rattle.paper.specs.declared.Row.{Row}
 use Rattle.paper.specs.Sizes.{place_of, local_id}
 use Rattle.paper.specs.Problems.{no_problem}
 use Rattle.paper.specs.Messages.{abort_tag, no_run}
-use Rattle.paper.specs.Components.{Item, items, components, component_at, go_on, next_start}
+use Rattle.paper.specs.Components.{Item, components}
 use Rattle.paper.specs.Writing.{tlv, cause_abort_octets}
 use Rattle.paper.specs.Kinds.{row_uni, row_begin, row_continue, row_end, row_user_abort, row_abort}
 use Rattle.paper.specs.Rows.{dialogue_row, row_octets, rows_octets, component_rows, all_acted}
@@ -33,7 +32,6 @@ use Rattle.demand_kept.specs.Acts.{AllReadable, Stays}
 use Rattle.demand_kept.proofs.Acts.{all-acted-stays, components-readable}
 use Rattle.demand_kept.proofs.StepKept.{begun-control-fine, continued-fine}
 use Rattle.table_places.specs.Storing.{Storing, with_waiting}
-use Rattle.reading_components.specs.Bounds.{component-in}
 use Rattle.writing_octets.specs.Lengths.{element-length, length-small}
 use Rattle.call_receive_rows.specs.declared.Shown.{Shown}
 use Rattle.call_receive_rows.specs.Shows.{Shows}

@@ -1,7 +1,7 @@
 -- WHAT A RECEIVED COMPONENT DOES KEEPS THE RULES (01, "Invocation states"), and leaves the dialogue's state and service. Assumes nothing.
 use Rattle.std.specs.Prelude.{◌≡◌}
 use mathlib.Core.List.{List, [], ◌∷◌}
-use Prim.Native.Nat.{◌-◌, ◌≤◌, ◌<◌}
+use Prim.Native.Nat.{◌≤◌, ◌<◌}
 use Rattle.paper.specs.declared.Component.{Component}
 use Rattle.paper.specs.declared.Control.{Control}
 use Rattle.paper.specs.Components.{reject_tag, Item}

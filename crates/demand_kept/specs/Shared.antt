@@ -1,5 +1,5 @@
 -- THE SHARES ARE KEPT where a place is taken, freed, or stays its service's (demand 3). Assumes nothing.
-use Rattle.std.specs.Prelude.{ℕ, ◌-◌}
+use Rattle.std.specs.Prelude.{ℕ}
 use Rattle.paper.specs.Calls.{Table, dialogues}
 use Rattle.table_shares.specs.Counting.{only, Moves}
 use Rattle.table_laws.specs.Fine.{Fine}

@@ -14,7 +14,7 @@ use Rattle.paper.specs.declared.Component.{Component}
 use Rattle.paper.specs.declared.Invocation.{Invocation}
 use Rattle.paper.specs.declared.Control.{Control}
 use Rattle.paper.specs.declared.Acted.{Acted}
-use Rattle.paper.specs.Problems.{problem, kind_of, no_problem}
+use Rattle.paper.specs.Problems.{kind_of, no_problem}
 use Rattle.paper.specs.Components.{not_last_tag}
 use Rattle.paper.specs.Invocations.{pending, sent, wait, rejecting, no_invocation, was_shown, is_open, slot_of, idle_slot, invocation_of, state_of, in_state, to_state, to_idle, all_idle, passed, not_last_shown, transmitted, rejecting_ids, all_transmitted, acted, rejected, takes, answer_kind, answer_problem, answers_sent, answers, invokes, released, reject_kind, rejects, faulty_reject, faults, act, may_reject}
 use Rattle.paper.specs.Asked.{releases, fault_heard, reject_heard, heard_of}

@@ -3,12 +3,10 @@
 use Rattle.std.specs.Prelude.{◌≡◌, ℕ}
 use mathlib.Core.List.{List, [], ◌∷◌, ◌++◌}
 use Rattle.laws.specs.If.{if_eq}
-use Rattle.paper.specs.declared.Reject.{Reject}
 use Rattle.paper.specs.declared.Control.{Control}
 use Rattle.paper.specs.declared.Acted.{Acted}
 use Rattle.paper.specs.Writing.{Written}
 use Rattle.paper.specs.Dialogues.{peer_of}
-use Rattle.paper.specs.Invocations.{rejects}
 use Rattle.paper.specs.Kinds.{row_rejected}
 use Rattle.demand_ledger.specs.Agrees.{waits}
 

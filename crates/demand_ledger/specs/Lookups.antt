@@ -5,7 +5,6 @@ use Prim.Native.Nat.{ℕ}
 use Rattle.laws.specs.If.{if_eq}
 use Rattle.paper.specs.declared.Invocation.{Invocation}
 use Rattle.paper.specs.Invocations.{rejecting, no_invocation, invocation_of, transmitted}
-use Rattle.table_laws.proofs.Keeps.{there}
 
 -- ONE INVOCATION TURNS to another: looked up under its ID there is this, under another ID what there was
 abbrev pub Turns : List Invocation → List Invocation → ℕ → Invocation → Type 0

@@ -1,5 +1,5 @@
 -- WHAT A MESSAGE IS READ AS keeps its type and destination, and at fault it has a P-Abort cause (01, "A received message"). Assumes nothing.
-use Rattle.std.specs.Prelude.{◌≡◌, ◌<◌, length}
+use Rattle.std.specs.Prelude.{◌≡◌, ◌<◌}
 use Rattle.paper.specs.declared.Message.{Message}
 use Rattle.paper.specs.Messages.{is_sound, is_dropped, begin_tag}
 

@@ -1,28 +1,12 @@
 -- AN ABORT'S PORTION, read back: user information, or a whole portion. Assumes nothing.
-use Rattle.std.proofs.Common.{arith, ◌∙◌, inl}
-use Rattle.std.specs.Prelude.{ℕ, ◌+◌, ◌<◌, ◌≤◌, ◌≡◌, true, List, [], ◌∷◌, ◌++◌, length, get_or}
+use Rattle.std.proofs.Common.{arith, ◌∙◌}
+use Rattle.std.specs.Prelude.{ℕ, ◌≤◌, ◌≡◌, true, List, [], length, get_or}
 use Rattle.std.proofs.Math.Path.{refl, sym, ap}
-use Rattle.laws.specs.Lists.{length_none}
-use Rattle.laws.specs.If.{eq, ne, yes, by-eq, either-eq}
-use Rattle.paper.specs.declared.Frame.{Frame}
-use Rattle.paper.specs.declared.Pdu.{Pdu}
-use Rattle.paper.specs.declared.Portion.{Portion}
-use Rattle.paper.specs.Sizes.{depths, most_waiting}
-use Rattle.paper.specs.Elements.{no_frame, is_element}
-use Rattle.paper.specs.Dialogues.{is_name, is_block, is_information, is_portion, is_abort, abort_portion}
+use Rattle.laws.specs.If.{eq, ne, by-eq}
+use Rattle.paper.specs.Sizes.{most_waiting}
+use Rattle.paper.specs.Dialogues.{is_block, is_portion, is_abort, abort_portion}
 use Rattle.paper.specs.Ledger.{abort_spoken}
-use Rattle.paper.specs.Writing.{tlv}
-use Rattle.paper.specs.Portions.{structured, unstructured, no_value, Parts, Piece, Form, plain, accepts, aborts, aarq, aare, abrt, audt, forms, piece_octets, pieces_octets, portion_octets, portion_by, unread, all_pieces, external, pdu_of, in_form, read_by, portion_of, Spoken, parts_in, spoken_in, spoken_by}
-use Rattle.writing_octets.specs.Lengths.{element-length, id-of}
-use Rattle.demand_readback.specs.Standing.{begins}
-use Rattle.demand_readback.specs.Pdus.{seen, informed, taking, AllFormed, AllTold, taking_all}
-use Rattle.demand_readback.proofs.Pdus.{pieces-parts, pieces-took}
-use Rattle.demand_readback.specs.Shells.{core, Holding}
-use Rattle.demand_readback.proofs.Shells.{pdu_at, pdu, core-parts, form-other, form-tag, form-own, core_at, inmost, external-back, octets-first, octets-formed}
-use Rattle.demand_readback.proofs.Contents.{silent}
-use Rattle.demand_readback.specs.Upto.{Upto, around}
-use Rattle.demand_readback.proofs.Upto.{one-inner}
-use Rattle.demand_readback.specs.Spoken.{addressed, answered, aborted, blank}
+use Rattle.paper.specs.Portions.{abrt, portion_by, spoken_in, spoken_by}
 use Rattle.demand_readback.proofs.Spoken.{ours-abrt, portion-formed, no_name, block-information, abrt-spoken}
 
 -- or a whole portion, which says what it says

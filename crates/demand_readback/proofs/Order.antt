@@ -15,7 +15,7 @@ use Rattle.paper.specs.Dialogues.{is_portion}
 use Rattle.paper.specs.Calls.{octets_at}
 use Rattle.paper.specs.Writing.{tlv, components_octets, begin_octets, continue_octets, end_octets, uni_octets, user_abort_octets, cause_abort_octets}
 use Rattle.writing_octets.specs.Lengths.{element-length, id-length}
-use Rattle.demand_readback.specs.Standing.{Has, ShortTag, ends}
+use Rattle.demand_readback.specs.Standing.{Has, ShortTag}
 use Rattle.demand_readback.proofs.Standing.{has_first, has_rest, has-at, octet-back, contents-back}
 use Rattle.demand_readback.specs.Written.{starts, run, read_begin, read_continue, read_end, read_uni, read_user_abort, read_cause_abort, Back}
 use Rattle.demand_readback.proofs.Reading.{has-octets, id-back, id-has, derived-as, outer-stands, outer-back, octets-back, rest_part, rest-portion, rest-components, user-part, cause-part}

@@ -2,7 +2,7 @@
 use native.Mathlib.Omega.{arith}
 use Rattle.std.proofs.Common.{add-zero, ◌∙◌, subst, ⊎_elim}
 use Prim.Native.Nat.{ℕ, ◌+◌, ◌-◌, ◌/◌, ◌%◌, ◌≤◌}
-use Rattle.std.specs.Prelude.{◌≡◌, true, ◌⊎◌, drop}
+use Rattle.std.specs.Prelude.{◌≡◌, true, drop}
 use Rattle.std.proofs.Math.Path.{refl, sym, ap}
 use mathlib.Core.List.{List, [], ◌∷◌, ◌++◌}
 use Rattle.std.proofs.Math.ListN.{length, get_or, take, length-append, get_or-append}

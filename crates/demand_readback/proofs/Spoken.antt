@@ -9,8 +9,7 @@ use Rattle.paper.specs.declared.Pdu.{Pdu}
 use Rattle.paper.specs.declared.Portion.{Portion}
 use Rattle.paper.specs.Sizes.{depths, most_waiting}
 use Rattle.paper.specs.Elements.{no_frame, is_element}
-use Rattle.paper.specs.Dialogues.{is_name, is_block, is_information, is_portion, is_abort, abort_portion}
-use Rattle.paper.specs.Ledger.{abort_spoken}
+use Rattle.paper.specs.Dialogues.{is_name, is_block, is_information, is_portion}
 use Rattle.paper.specs.Writing.{tlv}
 use Rattle.paper.specs.Portions.{structured, unstructured, no_value, Parts, Piece, Form, plain, accepts, aborts, aarq, aare, abrt, audt, forms, piece_octets, pieces_octets, portion_octets, portion_by, unread, all_pieces, external, pdu_of, in_form, read_by, portion_of, Spoken, parts_in, spoken_in, spoken_by}
 use Rattle.writing_octets.specs.Lengths.{element-length, id-of}

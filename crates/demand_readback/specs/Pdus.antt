@@ -1,5 +1,5 @@
 -- A DIALOGUE PDU'S PIECES (02 a), read where they were written. Assumes nothing.
-use Prim.Native.Nat.{ℕ, ◌+◌, ◌-◌, ◌/◌, ◌%◌, ◌≤◌}
+use Prim.Native.Nat.{ℕ, ◌+◌, ◌/◌, ◌%◌, ◌≤◌}
 use Rattle.std.specs.Prelude.{◌≡◌, true, ◌⊎◌}
 use mathlib.Core.List.{List, [], ◌∷◌}
 use Rattle.std.proofs.Math.ListN.{length, get_or}
@@ -7,7 +7,6 @@ use Rattle.laws.specs.If.{if_eq}
 use Rattle.paper.specs.declared.Pdu.{Pdu}
 use Rattle.paper.specs.Dialogues.{is_name, is_information}
 use Rattle.paper.specs.Portions.{Parts, Piece, piece_octets, pieces_octets, piece, run_in}
-use Rattle.demand_readback.specs.Standing.{begins}
 
 -- what is read so far, the runs by their octets
 abbrev pub seen : List ℕ → Pdu → Parts

@@ -1,9 +1,8 @@
 -- A component's pieces, read where they were written. Assumes nothing.
-use Prim.Native.Nat.{ℕ, ◌+◌, ◌-◌}
+use Prim.Native.Nat.{ℕ, ◌+◌}
 use Rattle.std.specs.Prelude.{◌≡◌, true, List, ◌++◌}
 use Rattle.std.proofs.Math.ListN.{length}
 use Rattle.paper.specs.declared.Component.{Component}
-use Rattle.paper.specs.Sizes.{depths}
 use Rattle.paper.specs.Elements.{constructor, is_element}
 use Rattle.paper.specs.Components.{known_tag, pieces}
 use Rattle.demand_readback.specs.Standing.{Has, ShortTag, Parts}

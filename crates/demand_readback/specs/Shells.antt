@@ -1,5 +1,5 @@
 -- THE ELEMENTS AROUND A DIALOGUE PDU (02 a), read where they were written. Assumes nothing.
-use Rattle.std.specs.Prelude.{ℕ, ◌+◌, ◌≡◌, List, ◌++◌}
+use Rattle.std.specs.Prelude.{ℕ, ◌≡◌, List, ◌++◌}
 use Rattle.paper.specs.Elements.{constructor}
 use Rattle.paper.specs.Writing.{tlv}
 use Rattle.demand_readback.specs.Standing.{ShortTag}

@@ -1,8 +1,8 @@
 -- Octets that stand in a list; written elements read where they stand. Assumes nothing.
-use Rattle.std.specs.Prelude.{ℕ, ◌+◌, ◌-◌, ◌%◌, ◌<◌, ◌≤◌, ◌≡◌, List, length}
+use Rattle.std.specs.Prelude.{ℕ, ◌+◌, ◌%◌, ◌<◌, ◌≤◌, ◌≡◌, List, length}
 use Rattle.std.proofs.Math.ListN.{get_or}
 use Rattle.paper.specs.declared.Reading.TheVariants.{Ends}
-use Rattle.paper.specs.Elements.{contents, element}
+use Rattle.paper.specs.Elements.{element}
 use Rattle.paper.specs.Writing.{length_octets, tlv}
 
 -- s has the octets vs from at on

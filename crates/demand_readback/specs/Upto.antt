@@ -1,8 +1,7 @@
 -- Elements that were written one in another, up to one end. Assumes nothing.
-use Rattle.std.specs.Prelude.{ℕ, ◌+◌, ◌-◌, ◌<◌, ◌≤◌, ◌≡◌, length}
+use Rattle.std.specs.Prelude.{ℕ, ◌+◌, ◌<◌, ◌≤◌, ◌≡◌, length}
 use mathlib.Core.List.{List}
 use Rattle.paper.specs.declared.Frame.{Frame}
-use Rattle.paper.specs.Elements.{constructor}
 use Rattle.demand_readback.specs.Standing.{Has}
 
 -- OCTETS THAT STAND IN l UP TO e

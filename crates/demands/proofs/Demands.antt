@@ -359,12 +359,12 @@ module _ (t g l : List ℕ) (fresh : (fresh_outcome t g l).answer ≡ 0) (ms : L
 
         refused-by : gives there s ≡ false → content_of (message_out reply) ≡ aborting asker [] Spoken.Silent 4
         refused-by e =
-          let is : step reached.to (Receive s msg) ≡ shows [] (cause_abort_octets asker 4) reached.to = by-rule false e ∙ sym (no false _ _ refl refl) in
-          let n : length asker ≡ (message_of msg).origin.length = asker-length in
-          let some : 0 < (message_of msg).origin.length = (message-in msg (message_of msg) refl).begins fine begin in
-          ap (λ (x : Outcome). content_of (message_out x)) (reply-is ∙ ap (given (lent_with reached.to begins)) is)
-          ∙ ap content_of (first-written space (cause_abort_octets asker 4) (omega (arith, cause-abort-fits asker (omega arith) (omega (arith, (message-in msg (message_of msg) refl).origin.short)) 4)))
-          ∙ cause-abort-content asker (omega arith) (omega (arith, (message-in msg (message_of msg) refl).origin.short)) 4 (omega arith)
+            let is : step reached.to (Receive s msg) ≡ shows [] (cause_abort_octets asker 4) reached.to = by-rule false e ∙ sym (no false _ _ refl refl) in
+            let n : length asker ≡ (message_of msg).origin.length = asker-length in
+            let some : 0 < (message_of msg).origin.length = (message-in msg (message_of msg) refl).begins fine begin in
+            ap (λ (x : Outcome). content_of (message_out x)) (reply-is ∙ ap (given (lent_with reached.to begins)) is)
+            ∙ ap content_of (first-written space (cause_abort_octets asker 4) (omega (arith, cause-abort-fits asker (omega arith) (omega (arith, (message-in msg (message_of msg) refl).origin.short)) 4)))
+            ∙ cause-abort-content asker (omega arith) (omega (arith, (message-in msg (message_of msg) refl).origin.short)) 4 (omega arith)
 
     decided : content_of (message_out reply) ≡ if_b (gives there s) Wire.Nothing (aborting asker [] Spoken.Silent 4)
     decided = go (gives there s) refl

@@ -2,7 +2,6 @@
 use Rattle.std.specs.Prelude.{◌≡◌, refl}
 use Rattle.std.proofs.Common.{sym, arith}
 use Rattle.laws.specs.If.{eq, ge, yes, was-eq, was-ge, was-yes}
-use Rattle.paper.specs.Rules.{rules}
 use Rattle.paper.specs.Outcome.{Lent, Spaces, standing}
 use Rattle.table_laws.specs.Fine.{Octets}
 use Rattle.table_laws.specs.Ready.{Ready}

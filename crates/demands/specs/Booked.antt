@@ -1,5 +1,5 @@
 -- THE LEDGER OF A HISTORY (demand 2), played over what a host sees of its calls, and that it agrees with the table. Assumes nothing.
-use Rattle.std.specs.Prelude.{◌≡◌, List, [], ◌∷◌, length, take}
+use Rattle.std.specs.Prelude.{◌≡◌, List, [], ◌∷◌, take}
 use Prim.Native.Nat.{ℕ, zero, suc, ◌≤◌}
 use Rattle.paper.specs.Calls.{Table, Call}
 use Rattle.paper.specs.Layout.{encode}

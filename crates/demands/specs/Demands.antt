@@ -3,10 +3,9 @@
 -- is made on the octets that the call before left (`after`), the first on what a tcap_fresh answered 0 left. What a call gives is
 -- `outcome`, which its contract names; nothing here speaks of another engine. Left to the host: that it hands the table on unaltered,
 -- and that spaces don't overlap. That the lowest number is given, and what is left as it was, stands in Lowest.antt and Tails.antt.
-use Rattle.std.specs.Prelude.{ℕ, ◌-◌}
-use Rattle.std.proofs.Math.Option.{none}
+use Rattle.std.specs.Prelude.{ℕ}
 use mathlib.Core.List.{List, [], ◌∷◌}
-use Rattle.std.specs.Prelude.{◌≡◌, Bool, false}
+use Rattle.std.specs.Prelude.{◌≡◌, false}
 use Rattle.paper.specs.declared.Row.{Row}
 use Rattle.paper.specs.Shares.{Resource, gives}
 use Rattle.paper.specs.Portions.{Spoken}

@@ -3,7 +3,7 @@ use Rattle.std.specs.Prelude.{◌≡◌, true, List, [], length}
 use Prim.Native.Nat.{ℕ, ◌≤◌}
 use Rattle.paper.specs.Sizes.{places_in_all, services}
 use Rattle.paper.specs.Shares.{shared, shares_fit}
-use Rattle.paper.specs.Calls.{Table, step, fresh_table}
+use Rattle.paper.specs.Calls.{Table, fresh_table}
 use Rattle.paper.specs.Calls.Call.{Open}
 use Rattle.paper.specs.Layout.{encode}
 use Rattle.paper.specs.Outcome.{Lent, spaces_for, fresh_outcome}

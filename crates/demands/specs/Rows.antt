@@ -1,6 +1,6 @@
 -- ROWS AS THE HOST READS THEM: they fit into the row space, and are had back from its octets. Assumes nothing.
 use Rattle.std.specs.Prelude.{List, get_or}
-use Prim.Native.Nat.{ℕ, ◌-◌, ◌<◌}
+use Prim.Native.Nat.{ℕ, ◌<◌}
 use Rattle.std.proofs.Math.ListN.{length}
 use Rattle.paper.specs.declared.Row.{Row}
 

@@ -1,6 +1,6 @@
 -- HOW LARGE THE NUMBERS OF A ROW ARE: each goes into its four octets. Assumes nothing.
 use mathlib.Core.List.{List, [], ◌∷◌}
-use Prim.Native.Nat.{ℕ, ◌+◌, ◌-◌, ◌≤◌}
+use Prim.Native.Nat.{ℕ, ◌+◌, ◌≤◌}
 use Rattle.paper.specs.Components.{Item}
 use Rattle.reading_components.specs.Bounds.{ComponentIn}
 

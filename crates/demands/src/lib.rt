@@ -1,3 +1,2 @@
 // The three demands: theorems over every history of calls. The crate is its specs/.
 #![tactic(auto)]
-

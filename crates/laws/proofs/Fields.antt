@@ -1,14 +1,11 @@
 -- A part of a layout's field replaced. Assumes nothing.
-use Rattle.std.specs.Prelude.{◌≡◌, refl, get_or, set}
+use Rattle.std.specs.Prelude.{◌≡◌}
 use Rattle.std.proofs.Math.Path.{sym, ap}
-use Rattle.std.proofs.Common.{◌∙◌, add-zero, drop_of_length-le, drop_at, drop-cons, drop-drop}
-use mathlib.Core.List.{List, [], ◌∷◌, ◌++◌, map, append-nil, append_assoc}
-use Prim.Native.Nat.{ℕ, zero, suc, ◌+◌, ◌*◌, ◌<◌, ◌≤◌}
-use Rattle.std.proofs.Math.Nat.{suc-mul}
+use Rattle.std.proofs.Common.{◌∙◌}
+use mathlib.Core.List.{List, [], ◌∷◌, ◌++◌}
+use Prim.Native.Nat.{ℕ, zero, suc, ◌+◌}
 use native.Mathlib.Omega.{arith}
-use Rattle.std.proofs.Math.ListN.{length, take, drop, length-append, take-append-drop}
-use Rattle.std.proofs.Math.Seq.{take_at, drop-append-add}
-use Rattle.laws.specs.Lists.{tab}
+use Rattle.std.proofs.Math.ListN.{length}
 use Rattle.laws.specs.Parts.{over, shift, stay}
 use Rattle.laws.specs.Fields.{Field, Sized, laid_out, offset, laid_cons, Becomes}
 

@@ -15,7 +15,7 @@ use native.Mathlib.Omega.{arith}
 use Rattle.std.proofs.Math.ListN.{length, take, drop, length-append, take-append-drop}
 use Rattle.std.proofs.Math.Seq.{take_at, drop-append-add}
 use Rattle.laws.specs.Lists.{tab}
-use Rattle.laws.specs.Parts.{over, shift, stay}
+use Rattle.laws.specs.Parts.{over, shift}
 
 -- a field of a record of type A: its width, and the octets that it holds
 pub record Field (A : Type 0) : Type 0 where

@@ -1,5 +1,5 @@
 -- INVOCATION STATES (01, "Invocation states"; 003): what a request, a component or a timer does to a dialogue's invocations. Assumes nothing.
-use Rattle.std.specs.Prelude.{Bool, true, false, List, [], ◌∷◌, map, ℕ, zero, ◌+◌, ◌-◌, get_or, set, eqb}
+use Rattle.std.specs.Prelude.{Bool, true, false, List, [], ◌∷◌, map, ℕ, ◌+◌, get_or, set, eqb}
 use Rattle.laws.specs.If.{if_lt, if_eq, if_b}
 use Rattle.laws.specs.Lists.{first_at}
 use Rattle.paper.specs.declared.Component.{Component}

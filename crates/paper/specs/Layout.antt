@@ -1,6 +1,6 @@
 -- THE OCTET FORM OF THE TABLE (docs/TABLE.md has it as a picture): each field is said once, in order, with its width and what it holds.
 -- Assumes nothing.
-use Rattle.std.specs.Prelude.{List, [], ◌∷◌, map, ℕ, ◌+◌, ◌*◌, ◌-◌, ◌/◌, ◌%◌, length, get_or, take, drop}
+use Rattle.std.specs.Prelude.{List, [], ◌∷◌, map, ℕ, ◌+◌, ◌*◌, ◌/◌, ◌%◌, length, get_or, take, drop}
 use Rattle.laws.specs.If.{if_b}
 use Rattle.laws.specs.Lists.{tab, pad}
 use Rattle.laws.specs.Digits.{packed_octets, octet_digits}

@@ -1,5 +1,5 @@
 -- PROBLEM CODES, AND WHO SENDS THEM (01, "Coding"). A kind is the tag less 128: 0 general, 1 invoke, 2 result, 3 error. Assumes nothing.
-use Rattle.std.specs.Prelude.{ℕ, ◌+◌, ◌*◌, ◌-◌, ◌/◌, ◌%◌}
+use Rattle.std.specs.Prelude.{ℕ, ◌+◌, ◌*◌, ◌/◌, ◌%◌}
 use Rattle.laws.specs.If.{if_lt, if_eq}
 
 abbrev pub by_layer : ℕ

@@ -1,5 +1,5 @@
 -- ROWS (01, "Rows"). Assumes nothing.
-use Rattle.std.specs.Prelude.{List, [], ◌∷◌, ◌++◌, ℕ, zero, suc, ◌+◌, ◌*◌, ◌-◌, ◌/◌, ◌%◌, length, get_or}
+use Rattle.std.specs.Prelude.{List, [], ◌∷◌, ◌++◌, ℕ, zero, suc, ◌+◌, ◌*◌, ◌-◌, ◌/◌, ◌%◌, get_or}
 use Rattle.laws.specs.If.{if_lt}
 use Rattle.paper.specs.declared.Component.{Component}
 use Rattle.paper.specs.declared.Run.{Run}

@@ -1,11 +1,11 @@
 -- WHAT IS PRINTED IS READ BACK, and what is read is printed again as the same text: numbers in decimal, invoke IDs with their sign, octets and
 -- dialogues in hex (read in either case, printed in capitals). Assumes nothing.
-use Rattle.std.specs.Prelude.{ℕ, zero, suc, ◌+◌, ◌*◌, ◌-◌, ◌/◌, ◌%◌, ◌^◌, ◌<◌, ◌≤◌, min, Bool, true, false, ◌≡◌, refl, List, [], ◌∷◌, ◌++◌, map, length, get_or, drop, eqb}
+use Rattle.std.specs.Prelude.{ℕ, zero, suc, ◌+◌, ◌*◌, ◌-◌, ◌/◌, ◌%◌, ◌^◌, ◌<◌, ◌≤◌, min, Bool, true, false, ◌≡◌, refl, List, [], ◌∷◌, ◌++◌, map, length, get_or, drop}
 use Rattle.std.proofs.Common.{sym, ap, ◌∙◌, subst, append_assoc, append-nil, pow-suc, add-zero, zero-add, arith, length-append, eqb-true}
 use Rattle.std.proofs.Math.ListN.{get_or-append}
-use Rattle.laws.specs.If.{if_lt, if_eq, if_b, lt, ge, eq, ne, yes, no, by-lt, by-eq, by-b, true-false}
+use Rattle.laws.specs.If.{if_lt, if_eq, lt, ge, eq, ne, yes, by-lt, by-eq, by-b, true-false}
 use Rattle.program_digits.specs.declared.Number.{Number}
-use Rattle.program_digits.specs.Digits.{sign, digit, digits, decimal, hex, dialogue, invoke_id, below, valued, none, largest, in_base, read_decimal, read_dialogue, negative, positive, read_id, is_hex, octets}
+use Rattle.program_digits.specs.Digits.{sign, digit, digits, decimal, hex, dialogue, invoke_id, below, valued, largest, in_base, read_decimal, read_dialogue, negative, positive, read_id, is_hex, octets}
 
 -- ---- A DIGIT AND ITS OCTET
 pub digit-sign : (d : ℕ) → d < 16 → digit (sign d) ≡ d

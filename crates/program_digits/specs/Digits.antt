@@ -1,5 +1,5 @@
 -- NUMBERS AND OCTETS AS TEXT: the digits that are printed, and what a text is read as. Assumes nothing.
-use Rattle.std.specs.Prelude.{ℕ, zero, suc, ◌+◌, ◌*◌, ◌-◌, ◌/◌, ◌%◌, ◌<◌, ◌≤◌, min, Bool, true, false, List, [], ◌∷◌, ◌++◌, length, get_or, take, drop, eqb}
+use Rattle.std.specs.Prelude.{ℕ, zero, suc, ◌+◌, ◌*◌, ◌-◌, ◌/◌, ◌%◌, min, Bool, true, false, List, [], ◌∷◌, ◌++◌, length, get_or, take, drop, eqb}
 use Rattle.std.proofs.lemmas.List.Edits.{sets}
 use Rattle.laws.specs.If.{if_lt, if_eq, if_b}
 use Rattle.program_digits.specs.declared.Number.{Number}

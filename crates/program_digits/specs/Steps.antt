@@ -1,6 +1,6 @@
 -- WHAT THE FUNCTIONS DO, STEP BY STEP, against the definitions. Assumes nothing.
 use Prim.Native.Nat.{ℕ, zero, suc, ◌+◌, ◌*◌, ◌-◌, ◌/◌, ◌%◌, ◌^◌, ◌<◌, ◌≤◌, min}
-use Rattle.std.specs.Prelude.{Bool, false, cond, ◌≡◌, length, get_or, set, take, ltb}
+use Rattle.std.specs.Prelude.{Bool, cond, ◌≡◌, length, get_or, set, take}
 use Rattle.std.proofs.Math.Bool.{true}
 use Rattle.std.proofs.Math.Path.{refl, sym, ap}
 use Rattle.std.proofs.Common.{◌∙◌, subst, pow-suc, le-mul_of_pos_right, add-one, arith, length-drop, drop-cons, take-suc, take_all, length-take-le, get_or-take, get_or-drop, lt-ltb}
@@ -8,7 +8,7 @@ use mathlib.Core.List.{List, [], ◌∷◌, ◌++◌}
 use Rattle.std.proofs.Math.ListN.{drop, drop_of_length-le}
 use Rattle.std.proofs.lemmas.List.Edits.{sets}
 use Rattle.io.specs.Digits.{hex_digit_ascii, IsDigitCount, last_digits as spelled}
-use Rattle.laws.specs.If.{if_lt, if_eq, if_b, lt, ge, eq, ne, yes, no, by-lt, by-eq, by-b}
+use Rattle.laws.specs.If.{if_lt, lt, ge, yes, no, by-lt, by-b}
 use Rattle.program_digits.specs.Digits.{sign, digit, digits, decimal, hex, or_none, below, valued, none, largest, in_base, is_hex, octets}
 use Rattle.program_digits.specs.declared.Number.{Number}
 use Rattle.program_text.specs.Said.{Said, said_more, said-as}

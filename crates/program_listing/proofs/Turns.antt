@@ -40,12 +40,14 @@ standing-next s r q l m p w t e f g =
     let b : m ≡ with_piece l (next_of (moved_to (at_start r.msg) l.last)) = f ∙ ap (with_piece l) (e ∙ ap (piece_at r.msg.now) w.at) in
     let z : Turned r.msg m (left_of s l) =
     subst (λ (k : Listed). Turned r.msg k (left_of s l)) (sym b) (stands-next r.msg l (left_of s l) (subst T (sym t) tt) w.stands) in
-    let n : z.left ≡ left_of s m = stands-left r.msg m z.left z.stands ∙ ap (λ (k : List ℕ). left_of k m) w.same in
-    (record {
-      at = ap (λ (x : Reader). x.at) g;
-      same = ap (λ (x : Reader). x.msg.now) g ∙ w.same;
-      stands = subst (λ (x : Reader). Stands x.msg m (left_of s m)) (sym g) (subst (Stands r.msg m) n z.stands);
-    }, omega (arith, z.less, n))
+    let n : z.left ≡ left_of s m = stands-left r.msg m z.left z.stands ∙ ap (λ (k : List ℕ). left_of k m) w.same in (
+      record {
+        at = ap (λ (x : Reader). x.at) g;
+        same = ap (λ (x : Reader). x.msg.now) g ∙ w.same;
+        stands = subst (λ (x : Reader). Stands x.msg m (left_of s m)) (sym g) (subst (Stands r.msg m) n z.stands);
+      },
+      omega (arith, z.less, n),
+    )
 
 -- after the last
 pub standing-over : (s : List ℕ) (r : Reader) (l : Listed) → Standing s r l → l.more ≡ false → l.count ≡ length (message_items s)

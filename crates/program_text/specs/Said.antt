@@ -1,6 +1,6 @@
 -- TEXT IN A LENT SPACE, cut where the space ends: what a printing function did, and that one text after another is one. Assumes nothing.
 use Rattle.std.specs.Prelude.{ℕ, suc, ◌+◌, ◌<◌, ◌≤◌, min, ◌≡◌, refl, List, [], ◌∷◌, ◌++◌, length, set, get_or, take}
-use Rattle.std.proofs.Common.{sym, ap, ◌∙◌, subst, arith, add-zero, add-one, length-append, length-set, take-suc, take_all}
+use Rattle.std.proofs.Common.{sym, ap, ◌∙◌, subst, arith, add-one, length-append, length-set, take-suc, take_all}
 use Rattle.std.proofs.lemmas.List.Edits.{sets}
 use Rattle.std.proofs.Math.Seq.{set_out}
 use Rattle.laws.specs.If.{if_lt, by-lt}

@@ -4,7 +4,7 @@ use Rattle.std.proofs.Math.Path.{sym, ap}
 use Rattle.std.proofs.Common.{◌∙◌, add-one, arith, length-drop, drop_of_length-le, drop-cons, drop-drop}
 use mathlib.Core.List.{List, [], ◌∷◌}
 use Rattle.std.proofs.Math.ListN.{length, get_or, drop}
-use Rattle.laws.specs.If.{if_lt, if_eq, if_b, ge, eq, ne, by-lt, by-eq}
+use Rattle.laws.specs.If.{if_lt, if_b, ge, eq, ne, by-lt, by-eq}
 use Rattle.program_words.specs.declared.Field.{Field}
 use Rattle.program_words.specs.Words.{up_to, past, after, word_of, field_of, count, same, cut_of, or_none, with_or_none, Two}
 

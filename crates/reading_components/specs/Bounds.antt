@@ -1,5 +1,5 @@
 -- WHERE A COMPONENT THAT IS READ LIES, and how large its numbers are. Assumes nothing.
-use Rattle.std.specs.Prelude.{◌≡◌, true, List, ℕ, ◌+◌, ◌-◌, ◌<◌, ◌≤◌, get_or}
+use Rattle.std.specs.Prelude.{◌≡◌, true, List, ℕ, ◌+◌, ◌<◌, ◌≤◌, get_or}
 use Rattle.std.proofs.Math.Path.{refl}
 use Rattle.std.proofs.Common.{sym, subst, eqb-true}
 use native.Mathlib.Omega.{arith}
@@ -12,8 +12,8 @@ use Rattle.paper.specs.declared.Frame.{Frame}
 use Rattle.paper.specs.declared.Component.{Component}
 use Rattle.paper.specs.Sizes.{depths, depths_from}
 use Rattle.paper.specs.Elements.{length_at, element, frame_at}
-use Rattle.paper.specs.Problems.{problem, no_problem}
-use Rattle.paper.specs.Components.{no_id, no_fault, reject_tag, mistyped, badly_structured, unrecognized, sound, faulty, single, some_end, code_end, frame_ends, last_piece, invoke_pieces, result_both, result_pieces, problem_at, tag81, reject_pieces, null_pieces, pieces_after, pieces, read_problem, if_nested, framed, tag_at, component_at}
+use Rattle.paper.specs.Problems.{no_problem}
+use Rattle.paper.specs.Components.{no_id, no_fault, reject_tag, mistyped, badly_structured, sound, faulty, single, some_end, code_end, frame_ends, last_piece, invoke_pieces, result_both, result_pieces, problem_at, tag81, reject_pieces, null_pieces, pieces_after, pieces, read_problem, if_nested, framed, tag_at, component_at}
 use Rattle.reading_elements.specs.Bounds.{LengthIn, FrameIn, length-in, frame-in}
 
 -- it ends by lim, and a sound one not before `least`; its parameter lies inside it

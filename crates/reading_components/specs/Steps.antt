@@ -12,7 +12,7 @@ use Rattle.paper.specs.declared.Frame.{Frame}
 use Rattle.paper.specs.declared.Component.{Component}
 use Rattle.paper.specs.Sizes.{depths, depths_from}
 use Rattle.paper.specs.Elements.{element, frame_at}
-use Rattle.paper.specs.Problems.{sender_of, problem, no_problem}
+use Rattle.paper.specs.Problems.{sender_of, no_problem}
 use Rattle.paper.specs.Components.{no_id, reject_tag, mistyped, badly_structured, faulty, single, code_end, result_both, result_pieces, problem_at, tag81, reject_pieces, known_tag, pieces, read_problem, if_nested, framed, tag_at, component_at}
 use Rattle.reading_elements.specs.Bounds.{nested}
 use Rattle.reading_components.specs.Bounds.{ComponentIn, component-in}

@@ -1,5 +1,5 @@
 -- ELEMENTS WITH A SHORT HEAD: a tag and a length of one octet each. Assumes nothing.
-use Rattle.std.specs.Prelude.{◌≡◌, refl, List, ℕ, ◌+◌, ◌-◌, ◌<◌, ◌%◌, get_or}
+use Rattle.std.specs.Prelude.{◌≡◌, refl, List, ℕ, ◌+◌, ◌<◌, ◌%◌, get_or}
 use Rattle.std.proofs.Common.{◌∙◌, ap, arith}
 use Rattle.laws.specs.If.{lt, ne}
 use Rattle.paper.specs.declared.Length.TheVariants.{Given}

@@ -1,5 +1,5 @@
 -- The definitions' steps, as the code takes them: with what it has at hand in the place of what the definition names. Assumes nothing.
-use Rattle.std.specs.Prelude.{◌≡◌, Bool, List, ℕ, ◌+◌, ◌-◌, ◌%◌, length, get_or}
+use Rattle.std.specs.Prelude.{◌≡◌, Bool, List, ℕ, ◌+◌, ◌%◌, length, get_or}
 use Rattle.std.proofs.Common.{◌∙◌}
 use Rattle.std.proofs.Math.Path.{ap}
 use Rattle.std.proofs.Math.Bool.{true, false}

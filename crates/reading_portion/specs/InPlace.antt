@@ -1,12 +1,11 @@
 -- A PORTION READ AT ITS RUN IN A MESSAGE says what its own octets say (02 a). Assumes nothing.
-use Rattle.std.specs.Prelude.{◌≡◌, refl, List, [], ℕ, ◌+◌, ◌≤◌, length, get_or, take, drop}
-use Rattle.std.proofs.Common.{sym, ap, subst, ◌∙◌, add_assoc, arith, length-take, length-drop, ext_get_or, get_or-take, get_or-drop, length-take-le}
+use Rattle.std.specs.Prelude.{◌≡◌, refl, List, ℕ, ◌+◌, ◌≤◌, length, get_or, take, drop}
+use Rattle.std.proofs.Common.{sym, ap, subst, ◌∙◌, add_assoc, arith, length-take, length-drop, ext_get_or, get_or-take, get_or-drop}
 use Rattle.laws.specs.If.{ge, by-eq}
 use Rattle.paper.specs.declared.Run.{Run}
 use Rattle.paper.specs.declared.Portion.{Portion}
 use Rattle.paper.specs.declared.Portion.TheVariants.{Absent, Opaque, Aarq, Aare, Abrt, Audt}
-use Rattle.paper.specs.Messages.{no_run}
-use Rattle.paper.specs.Portions.{Parts, no_value, plain, aare, abrt, Spoken, run_in, parts_in, spoken_in, portion_of, run_from, from_start, portion_at}
+use Rattle.paper.specs.Portions.{run_in, parts_in, spoken_in, portion_of, run_from, from_start, portion_at}
 use Rattle.reading_portion.specs.Bounds.{RunIn, PortionIn, portion-in}
 
 module _ (s : List ℕ) (k len : ℕ) (room : k + len ≤ length s) where

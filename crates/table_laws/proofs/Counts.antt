@@ -2,7 +2,7 @@
 use Rattle.std.specs.Prelude.{◌≡◌, refl, Bool, true, false, cond, List, [], ◌∷◌, map, ℕ, zero, suc, ◌+◌, ◌-◌, ◌<◌, eqb, ltb, leb, length, get_or, take}
 use Rattle.std.proofs.Common.{sym, ap, subst, ◌∙◌, arith, eqb-true, ltb-true, ltb-false, le-leb}
 use Rattle.std.proofs.lemmas.Bool.{eqb-false, lt-leb}
-use Rattle.laws.specs.If.{if_eq, if_b, ne, yes, no, all}
+use Rattle.laws.specs.If.{if_eq, if_b, yes, no, all}
 use Rattle.laws.specs.Sums.{sum, sum-ext, sum-plus, sum-zero, sum_by}
 use Rattle.laws.specs.Lists.{first_at}
 use Rattle.laws.specs.Digits.{octet_digits, lowest, count}

@@ -1,7 +1,7 @@
 -- A PLACE AND ITS OCTETS: each is had back from the other. Assumes nothing.
 use Rattle.std.specs.Prelude.{replicate}
 use mathlib.Core.List.{List}
-use Prim.Native.Nat.{ℕ, ◌+◌, ◌*◌, ◌-◌, ◌<◌}
+use Prim.Native.Nat.{ℕ, ◌+◌, ◌*◌, ◌<◌}
 use Rattle.std.proofs.Math.ListN.{take}
 use Rattle.laws.specs.Fields.{laid_out, offset}
 use Rattle.paper.specs.declared.Reject.{Reject}

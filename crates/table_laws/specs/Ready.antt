@@ -1,6 +1,5 @@
 -- THE TABLE RULES HOLD exactly where the octets are those of a fine table. Assumes nothing.
-use Rattle.std.specs.Prelude.{◌≡◌, List, ℕ, ◌-◌, length}
-use Rattle.laws.specs.If.{all}
+use Rattle.std.specs.Prelude.{◌≡◌, List, ℕ, length}
 use Rattle.paper.specs.Layout.{table_size, encode, view}
 use Rattle.table_laws.specs.Fine.{Fine}
 

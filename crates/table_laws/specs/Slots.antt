@@ -1,5 +1,5 @@
 -- A PLACE'S OCTETS AND ITS BIT, walked over as the code does, pass exactly where they are those of a fine place. Assumes nothing.
-use Rattle.std.specs.Prelude.{◌≡◌, Bool, ℕ, ◌+◌, ◌-◌, drop}
+use Rattle.std.specs.Prelude.{◌≡◌, Bool, ℕ, ◌+◌, drop}
 use Rattle.std.proofs.Math.Bool.{true, false}
 use mathlib.Core.List.{List}
 use Rattle.std.proofs.Math.ListN.{get_or}

@@ -1,5 +1,5 @@
 -- THE WHOLE TABLE: encode and view, each the other's inverse. Assumes nothing.
-use Rattle.std.specs.Prelude.{Bool, ℕ, ◌-◌}
+use Rattle.std.specs.Prelude.{Bool, ℕ}
 use mathlib.Core.List.{List}
 use Rattle.paper.specs.Layout.{slot, map_bit}
 use Rattle.table_laws.specs.Slots.{slot_kept}

@@ -3,7 +3,7 @@ use Prim.Native.Nat.{ℕ, zero, suc, ◌+◌, ◌*◌, ◌/◌, ◌%◌, ◌<◌
 use mathlib.Core.Path.{◌≡◌, refl, sym, ap, ◌∙◌}
 use mathlib.Core.List.{List, [], ◌∷◌, ◌++◌}
 use native.Mathlib.Omega.{arith}
-use lib.ListN.{length, get_or, set, take, drop, replicate, length-replicate}
+use lib.ListN.{length, get_or, set, take, replicate, length-replicate}
 use lib.Seq.{sets}
 use Rattle.laws.specs.If.{if_lt, lt, ge, by-lt}
 use Rattle.laws.specs.Lists.{tab, tab-all, tab-set, tab-ext}

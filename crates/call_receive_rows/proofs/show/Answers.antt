@@ -1,6 +1,5 @@
 use native.Mathlib.Omega.{arith}
 use mathlib.Core.Path.{refl, ◌∙◌}
-use Prim.Native.Nat.{◌-◌}
 use Rattle.call_receive_rows.proofs.Loop.{rest-start, rest_more, rest_end}
 use Rattle.call_receive_rows.proofs.show.Goals as goal
 

@@ -1,8 +1,7 @@
 use mathlib.Core.Path.{sym, ◌∙◌}
 use mathlib.Core.List.{List}
-use Prim.Native.Nat.{ℕ, ◌-◌}
+use Prim.Native.Nat.{ℕ}
 use native.Mathlib.Omega.{arith}
-use borrow.Author.Tests.{not-true, not-false}
 use Rattle.paper.specs.Dialogues.{of_class4}
 use Rattle.table_laws.proofs.Following.{rest-start, rest-fails, rest_end, rest_more}
 use Rattle.call_send_parts.specs.Refused.{class4-at, class4-sound}

@@ -17,8 +17,7 @@ copy_at-e-requires c =
 
 pub write_rejects-requires : goal.write_rejects-requires
 write_rejects-requires c =
-    let x : Place = place_at (view c.args.t.now) c.args.p in
-    (
+    let x : Place = place_at (view c.args.t.now) c.args.p in (
       holds-fine c.requires.0,
       sent-room x c.args.fits c.args.c c.waiting-w.result.now c.args.at c.copy_at-e.result (length c.copy_at-e.new.out) c.if-fits.true c.requires.0.control
           c.waiting-w.ensures c.copy_at-e.ensures.past (omega (arith, c.copy_at-e.ensures.long)),

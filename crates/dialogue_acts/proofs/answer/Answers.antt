@@ -17,5 +17,8 @@ returns-then-state-eq-SENT c =
 pub returns : goal.returns
 unfolding answers
 returns c =
-    record { is = λ room d e q. stays-stored d _ _ _ _ c.stays.ensures.is room q ∙ ap (rejected room d _) c.answer_problem-problem.ensures
-      ∙ ne _ _ _ _ (λ h. c.if-state-eq-SENT.false (sym (state-is d _ _ _ e c.slot_of-i.ensures.is _ c.state_at-state.ensures.is) ∙ h)) refl; waits = λ h. omega arith }
+    record {
+      is = λ room d e q. stays-stored d _ _ _ _ c.stays.ensures.is room q ∙ ap (rejected room d _) c.answer_problem-problem.ensures
+          ∙ ne _ _ _ _ (λ h. c.if-state-eq-SENT.false (sym (state-is d _ _ _ e c.slot_of-i.ensures.is _ c.state_at-state.ensures.is) ∙ h)) refl;
+      waits = λ h. omega arith;
+    }

@@ -2,7 +2,7 @@ use native.Mathlib.Omega.{arith}
 use native.Mathlib.Numerals.{add-one}
 use mathlib.Core.Bool.{true, false}
 use mathlib.Core.Path.{◌≡◌, refl, sym, ap, ◌∙◌}
-use Prim.Native.Nat.{ℕ, ◌-◌}
+use Prim.Native.Nat.{ℕ}
 use lib.ListN.{length, drop}
 use borrow.Author.Tests.{eqb-true}
 use Rattle.laws.specs.If.{eq, true-false}
@@ -22,8 +22,7 @@ loop-i-init c =
 
 pub loop-i-preserved : goal.loop-i-preserved
 loop-i-preserved c =
-    let n : length c.args.l ≡ 8 = c.well_formed.0.1.0.1 in
-    (
+    let n : length c.args.l ≡ 8 = c.well_formed.0.1.0.1 in (
       omega arith,
       λ id. omega (
         arith,

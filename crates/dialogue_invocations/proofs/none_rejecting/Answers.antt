@@ -2,7 +2,7 @@ use native.Mathlib.Omega.{arith}
 use native.Mathlib.Numerals.{add-one}
 use mathlib.Core.Path.{◌≡◌, refl, sym, ap, ◌∙◌}
 use mathlib.Core.List.{List, []}
-use Prim.Native.Nat.{ℕ, suc, ◌-◌, ◌≤◌, ◌<◌}
+use Prim.Native.Nat.{ℕ, suc, ◌≤◌, ◌<◌}
 use lib.ListN.{length, get_or, drop, drop_of_length-le}
 use lib.Seq.{drop-cons}
 use Rattle.laws.specs.If.{ne, true-false}
@@ -29,8 +29,7 @@ returns-then-w-eq-REJECTING c =
 pub loop-i-preserved : goal.loop-i-preserved
 loop-i-preserved c =
     let l : List Invocation = c.args.l in
-    let n : length l ≡ 8 = c.well_formed.0.1.0.1 in
-    (
+    let n : length l ≡ 8 = c.well_formed.0.1.0.1 in (
       omega arith,
       c.loop-i.invariant.1 ∙ past l c.loop-i.i (omega arith) c.if-w-eq-REJECTING.false ∙ ap (λ (k : ℕ). rejecting_ids (drop k l)) (sym (add-one c.loop-i.i)),
     )

@@ -2,7 +2,7 @@ use native.Mathlib.Omega.{arith}
 use native.Mathlib.Numerals.{add-one}
 use mathlib.Core.Path.{◌≡◌, refl, sym, ap, ◌∙◌}
 use mathlib.Core.List.{List}
-use Prim.Native.Nat.{ℕ, suc, ◌-◌, ◌≤◌, ◌<◌}
+use Prim.Native.Nat.{ℕ, suc, ◌≤◌, ◌<◌}
 use lib.ListN.{length, get_or, drop, drop_of_length-le}
 use lib.Seq.{drop-cons}
 use Rattle.laws.specs.If.{if_eq, by-eq, eq, ne}
@@ -37,11 +37,10 @@ pub loop-i-preserved : goal.loop-i-preserved
 loop-i-preserved c =
     let n : length c.args.l ≡ 8 = c.well_formed.1.0.1.0.1 in
     let e : c.if-v-eq-REJECTING.d ≡ if_eq (v c.args.l c.loop-i.i).state rejecting (to_idle c.loop-i.d (v c.args.l c.loop-i.i).id) c.loop-i.d =
-        elim c.if-v-eq-REJECTING.branch [
-          then-v-eq-REJECTING w ↦ eq _ _ _ _ w.if-v-eq-REJECTING.true (w.d-is ∙ w.release-d.ensures ∙ ap (to_idle c.loop-i.d) w.number.ensures.0)
-          | else-v-eq-REJECTING w ↦ ne _ _ _ _ w.if-v-eq-REJECTING.false w.d-is
-        ] in
-    (
+    elim c.if-v-eq-REJECTING.branch [
+      | then-v-eq-REJECTING w ↦ eq _ _ _ _ w.if-v-eq-REJECTING.true (w.d-is ∙ w.release-d.ensures ∙ ap (to_idle c.loop-i.d) w.number.ensures.0)
+      | else-v-eq-REJECTING w ↦ ne _ _ _ _ w.if-v-eq-REJECTING.false w.d-is
+    ] in (
       omega arith,
       ap (λ (k : ℕ). all_idle c.if-v-eq-REJECTING.d (rejecting_ids (drop k c.args.l))) (add-one c.loop-i.i)
           ∙ more c.args.l c.loop-i.i c.loop-i.d c.if-v-eq-REJECTING.d (omega arith) e ∙ c.loop-i.invariant.1,

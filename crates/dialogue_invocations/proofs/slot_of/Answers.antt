@@ -1,6 +1,6 @@
 use native.Mathlib.Omega.{arith}
 use mathlib.Core.Path.{◌≡◌, sym, ap, ◌∙◌}
-use Prim.Native.Nat.{ℕ, ◌-◌}
+use Prim.Native.Nat.{ℕ}
 use lib.ListN.{length, drop}
 use native.Mathlib.Numerals.{add-one}
 use Rattle.laws.specs.Lists.{first_at, first-hit, first-miss, first-none}

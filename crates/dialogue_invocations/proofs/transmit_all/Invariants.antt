@@ -1,6 +1,6 @@
 use mathlib.Core.Path.{◌≡◌}
 use mathlib.Core.List.{◌++◌, map}
-use Prim.Native.Nat.{◌+◌, ◌-◌, ◌≤◌}
+use Prim.Native.Nat.{◌-◌, ◌≤◌}
 use lib.ListN.{take, drop}
 use Rattle.paper.specs.Invocations.{transmitted}
 use Rattle.dialogue_invocations.proofs.transmit_all.Given as goal

@@ -1,4 +1,3 @@
-use Prim.Native.Nat.{◌-◌}
 use native.Mathlib.Omega.{arith}
 use Rattle.program_digits.specs.Steps.{left-first, left-next, left-none, left-all}
 use Rattle.program_digits.proofs.in_base.Goals as goal

@@ -1,4 +1,3 @@
-use Prim.Native.Nat.{◌-◌}
 use native.Mathlib.Omega.{arith}
 use Rattle.program_text.specs.Said.{said-none}
 use Rattle.program_digits.specs.Digits.{hex}

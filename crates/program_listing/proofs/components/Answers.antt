@@ -6,9 +6,10 @@ pub loop-l-init : goal.loop-l-init
 loop-l-init g c = standing-first c.args.msg c.new-r.result (λ i. omega (arith, c.type_inv.msg i)) c.new-r.ensures
 
 pub taken-l-requires : goal.taken-l-requires
-taken-l-requires g c =
-    (standing-few c.args.msg.now c.loop-l.r c.loop-l.l (λ i. omega (arith, c.type_inv.msg i)) c.loop-l.invariant,
-    standing-fits c.args.msg.now c.loop-l.r c.loop-l.l c.next.result (λ i. omega (arith, c.type_inv.msg i)) c.loop-l.invariant c.next.ensures)
+taken-l-requires g c = (
+  standing-few c.args.msg.now c.loop-l.r c.loop-l.l (λ i. omega (arith, c.type_inv.msg i)) c.loop-l.invariant,
+  standing-fits c.args.msg.now c.loop-l.r c.loop-l.l c.next.result (λ i. omega (arith, c.type_inv.msg i)) c.loop-l.invariant c.next.ensures,
+)
 
 pub loop-l-smaller : goal.loop-l-smaller
 loop-l-smaller g c =

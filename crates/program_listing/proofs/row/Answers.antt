@@ -1,5 +1,5 @@
 use mathlib.Core.Path.{◌≡◌, ap}
-use Prim.Native.Nat.{ℕ, ◌-◌, ◌≤◌}
+use Prim.Native.Nat.{ℕ, ◌≤◌}
 use native.Mathlib.Omega.{arith}
 use Rattle.program_text.specs.Said.{said-none, said-as}
 use Rattle.program_listing.specs.Rows.{numbers, numbers-next}

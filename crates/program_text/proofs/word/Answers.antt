@@ -1,4 +1,3 @@
-use Prim.Native.Nat.{◌-◌}
 use native.Mathlib.Omega.{arith}
 use Rattle.program_text.specs.Said.{said-none, said-next, said_all}
 use Rattle.program_text.proofs.word.Goals as goal

@@ -1,5 +1,4 @@
 use mathlib.Core.Path.{◌∙◌, refl, sym}
-use Prim.Native.Nat.{◌-◌}
 use native.Mathlib.Omega.{arith}
 use Rattle.program_words.specs.Steps.{sought-next, sought-here, sought-none}
 use Rattle.program_words.proofs.end_of.Goals as goal

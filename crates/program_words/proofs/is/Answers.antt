@@ -1,5 +1,4 @@
 use mathlib.Core.Path.{refl}
-use Prim.Native.Nat.{◌-◌}
 use native.Mathlib.Omega.{arith}
 use Rattle.program_words.specs.Steps.{same-long, same_next, same_none, same-all}
 use Rattle.program_words.proofs.is.Goals as goal

@@ -1,5 +1,5 @@
 use mathlib.Core.Path.{◌≡◌, ◌∙◌, ap, refl}
-use Prim.Native.Nat.{ℕ, ◌-◌, ◌≤◌}
+use Prim.Native.Nat.{ℕ, ◌≤◌}
 use native.Mathlib.Omega.{arith}
 use Rattle.program_words.specs.Words.{after}
 use Rattle.program_words.specs.Steps.{after_next, field_is}

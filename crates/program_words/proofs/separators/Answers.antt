@@ -1,4 +1,3 @@
-use Prim.Native.Nat.{◌-◌}
 use native.Mathlib.Omega.{arith}
 use Rattle.program_words.specs.Steps.{count_next, count-all}
 use Rattle.program_words.proofs.separators.Goals as goal

@@ -26,27 +26,29 @@ contents-loop-left-smaller-then-q-ne0 t c = omega (arith, c.primitive_end-q.ensu
 
 pub contents-loop-left-preserved-then-q-ne0 : goal.contents-loop-left-preserved-then-q-ne0
 contents-loop-left-preserved-then-q-ne0 t c =
-    let w = c.primitive_end-q.ensures.within (omega arith) in
-    (omega arith,
-    omega arith,
-    λ x g. c.loop-left.invariant.2 x (λ n h.
-        next _ _ _ _ _ n _ h _ x (sym c.if-is_end.false ∙ c.is_end.ensures) c.if-p-lim.false (c.primitive_end-q.ensures.is (omega arith)) (g (n - 1) (omega arith))))
+    let w = c.primitive_end-q.ensures.within (omega arith) in (
+      omega arith,
+      omega arith,
+      λ x g. c.loop-left.invariant.2 x (λ n h.
+          next _ _ _ _ _ n _ h _ x (sym c.if-is_end.false ∙ c.is_end.ensures) c.if-p-lim.false (c.primitive_end-q.ensures.is (omega arith)) (g (n - 1) (omega arith))),
+    )
 
 pub contents-returns-in-Fault : goal.contents-returns-in-Fault
 contents-returns-in-Fault t c =
     c.loop-left.invariant.2 _ (λ n h.
-        next _ _ _ _ _ n _ h _ _ (sym c.if-is_end.false ∙ c.is_end.ensures) c.if-p-lim.false (sym c.in-Fault.is ∙ c.element.ensures.is) refl)
+    next _ _ _ _ _ n _ h _ _ (sym c.if-is_end.false ∙ c.is_end.ensures) c.if-p-lim.false (sym c.in-Fault.is ∙ c.element.ensures.is) refl)
 
 pub contents-loop-left-smaller : goal.contents-loop-left-smaller
 contents-loop-left-smaller t c = omega (arith, subst (ReadingIn _ _) c.in-Ends.is c.element.ensures.within)
 
 pub contents-loop-left-preserved : goal.contents-loop-left-preserved
 contents-loop-left-preserved t c =
-    let w = subst (ReadingIn _ _) c.in-Ends.is c.element.ensures.within in
-    (omega arith,
-    omega arith,
-    λ x g. c.loop-left.invariant.2 x (λ n h.
-        next _ _ _ _ _ n _ h _ x (sym c.if-is_end.false ∙ c.is_end.ensures) c.if-p-lim.false (sym c.in-Ends.is ∙ c.element.ensures.is) (g (n - 1) (omega arith))))
+    let w = subst (ReadingIn _ _) c.in-Ends.is c.element.ensures.within in (
+      omega arith,
+      omega arith,
+      λ x g. c.loop-left.invariant.2 x (λ n h.
+          next _ _ _ _ _ n _ h _ x (sym c.if-is_end.false ∙ c.is_end.ensures) c.if-p-lim.false (sym c.in-Ends.is ∙ c.element.ensures.is) (g (n - 1) (omega arith))),
+    )
 
 pub element-returns-then-left-eq0 : goal.element-returns-then-left-eq0
 element-returns-then-left-eq0 t c =

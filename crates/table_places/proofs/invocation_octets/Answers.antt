@@ -1,6 +1,5 @@
 use native.Mathlib.Omega.{arith}
 use mathlib.Core.Path.{refl}
-use Prim.Native.Nat.{◌-◌}
 use Rattle.paper.specs.Invocations.{no_invocation}
 use Rattle.table_places.specs.Made.{made_invocation}
 use Rattle.table_places.proofs.Writing.{made_none, made_more, made_all}

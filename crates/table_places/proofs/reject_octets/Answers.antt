@@ -1,5 +1,5 @@
 use native.Mathlib.Omega.{arith}
-use Prim.Native.Nat.{◌-◌, ◌%◌}
+use Prim.Native.Nat.{◌%◌}
 use Rattle.paper.specs.Dialogues.{no_reject}
 use Rattle.table_places.specs.Made.{made_reject}
 use Rattle.table_places.proofs.Writing.{made_none, made_more, made_all}

@@ -1,6 +1,6 @@
 use Rattle.table_rules.proofs.Laws.{kept_step, kept-end}
 use Rattle.laws.specs.If.{yes, no}
-use Prim.Native.Nat.{ℕ, ◌-◌}
+use Prim.Native.Nat.{ℕ}
 use mathlib.Core.List.{List}
 use mathlib.Core.Path.{refl, sym, ◌∙◌}
 use native.Mathlib.Omega.{arith}

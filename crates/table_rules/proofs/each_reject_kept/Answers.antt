@@ -3,7 +3,7 @@ use Rattle.table_rules.proofs.Laws.{waits-step, waits_end}
 use Rattle.paper.specs.Rules.{rejects_kept}
 use Rattle.table_rules.specs.Kinds.{rejects_from}
 use Rattle.laws.specs.If.{yes, no}
-use Prim.Native.Nat.{ℕ, ◌-◌}
+use Prim.Native.Nat.{ℕ}
 use mathlib.Core.Path.{refl, sym, ap, ◌∙◌}
 use native.Mathlib.Omega.{arith}
 use borrow.Author.Rules.{rules}

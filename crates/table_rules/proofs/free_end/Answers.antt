@@ -1,7 +1,6 @@
 use Rattle.table_rules.proofs.Laws.{free_more}
 use Rattle.table_rules.specs.Kinds.{free_kind, kind_at}
 use borrow.Author.Tests.{eqb-true, eqb-false}
-use Prim.Native.Nat.{◌-◌}
 use mathlib.Core.Path.{sym, ◌∙◌}
 use native.Mathlib.Omega.{arith}
 use borrow.Author.Rules.{rules}

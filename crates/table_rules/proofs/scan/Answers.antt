@@ -4,7 +4,7 @@ use Rattle.table_rules.specs.Kinds.{broken_kind, slot_seen, kind_at, place_kept}
 use Rattle.paper.specs.Sizes.{places_in_all}
 use Rattle.laws.specs.If.{all, all-fails, true-false}
 use borrow.Author.Tests.{le-ltb}
-use Prim.Native.Nat.{ℕ, ◌-◌}
+use Prim.Native.Nat.{ℕ}
 use mathlib.Core.List.{List}
 use mathlib.Core.Path.{◌≡◌, sym, ap, ◌∙◌}
 use native.Mathlib.Omega.{arith}

@@ -1,7 +1,7 @@
 use Rattle.laws.specs.Sums.{sum}
 use Rattle.paper.specs.Sizes.{services}
 use lib.ListN.{get_or}
-use Prim.Native.Nat.{ℕ, ◌+◌, ◌-◌}
+use Prim.Native.Nat.{ℕ, ◌+◌}
 use mathlib.Core.Path.{◌≡◌, refl, sym, ap, ◌∙◌}
 use native.Mathlib.Numerals.{add-one}
 use native.Mathlib.Omega.{arith}
@@ -14,8 +14,7 @@ loop-k-init c =
 pub loop-k-preserved : goal.loop-k-preserved
 loop-k-preserved c =
     let f : ℕ → ℕ = λ i. get_or c.args.counts i 0 in
-    let k : ℕ = c.loop-k.k in
-    (
+    let k : ℕ = c.loop-k.k in (
       omega arith,
       ap (λ (m : ℕ). m + c.number-n.result) c.loop-k.invariant.1 ∙ ap (λ (m : ℕ). sum f k + m) c.number-n.ensures.0 ∙ ap (sum f) (sym (add-one k)),
       omega arith,

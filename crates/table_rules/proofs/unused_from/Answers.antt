@@ -1,7 +1,6 @@
 use Rattle.table_rules.proofs.Laws.{open_step, open-end}
 use Rattle.paper.specs.Invocations.{is_open}
 use Rattle.laws.specs.If.{yes, no}
-use Prim.Native.Nat.{◌-◌}
 use mathlib.Core.Path.{refl, sym, ap, ◌∙◌}
 use native.Mathlib.Omega.{arith}
 use borrow.Author.Rules.{rules}

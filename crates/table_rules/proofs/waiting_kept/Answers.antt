@@ -5,7 +5,7 @@ use Rattle.paper.specs.Components.{no_fault, waiting_items}
 use Rattle.paper.specs.Rules.{is_sound_item, waiting_kept}
 use Rattle.laws.specs.If.{eq}
 use Rattle.laws.specs.Lists.{every}
-use Prim.Native.Nat.{ℕ, ◌-◌}
+use Prim.Native.Nat.{ℕ}
 use mathlib.Core.List.{List}
 use mathlib.Core.Bool.{true, false}
 use mathlib.Core.Path.{refl, ap, ◌∙◌}

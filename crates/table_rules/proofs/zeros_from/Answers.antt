@@ -2,7 +2,7 @@ use Rattle.table_rules.proofs.Laws.{run_step, run_none, or-if, if-first, if-last
 use Rattle.laws.specs.Lists.{zeros}
 use Rattle.laws.specs.If.{if_eq}
 use lib.ListN.{length, get_or, drop}
-use Prim.Native.Nat.{ℕ, ◌+◌, ◌-◌, ◌≤◌}
+use Prim.Native.Nat.{ℕ, ◌+◌, ◌≤◌}
 use mathlib.Core.Bool.{Bool, false}
 use mathlib.Core.List.{List}
 use mathlib.Core.Path.{sym, ap, ◌∙◌}
@@ -16,8 +16,7 @@ loop-i-init c =
 
 pub loop-i-preserved : goal.loop-i-preserved
 loop-i-preserved c =
-    let s : List ℕ = c.args.rec.now in
-    (
+    let s : List ℕ = c.args.rec.now in (
       search rules,
       c.loop-i.invariant.1
           ∙ ap (λ (r : Bool). if_eq c.loop-i.acc 0 r false) (run_step s c.loop-i.i (omega arith))
