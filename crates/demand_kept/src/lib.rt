@@ -1,2 +1,2 @@
-// What keeps the table rules: laws on one dialogue, for each change of its control record. The crate is its specs/.
+// What keeps the table rules: laws on one dialogue, for each change of its control record. The laws stand in proofs/, what they speak of in specs/.
 #![tactic(auto)]

@@ -2,7 +2,7 @@
 -- A host's history of C calls is a list of `Made`: the call with its arguments, and the row and message spaces lent with it; each
 -- is made on the octets that the call before left (`after`), the first on what a tcap_fresh answered 0 left. What a call gives is
 -- `outcome`, which its contract names; nothing here speaks of another engine. Left to the host: that it hands the table on unaltered,
--- and that spaces don't overlap. That the lowest number is given, and what is left as it was, stands in Lowest.antt and Tails.antt.
+-- and that spaces don't overlap. That the lowest number is given, and what is left as it was, stands in proofs/Lowest.antt and proofs/Tails.antt.
 use Rattle.std.specs.Prelude.{◌≡◌, Bool, false, ◌⊎◌, ◌↔◌, ℕ, zero, suc, ◌+◌, ◌-◌, ◌%◌, ◌≤◌, ◌<◌, length, get_or}
 use Rattle.std.proofs.Math.Path.{refl, sym, ap, subst}
 use Rattle.std.proofs.Common.{◌∙◌, inl, inr, length-take, length-drop}

@@ -1,5 +1,5 @@
 -- WHEN EACH ANSWER NUMBER APPLIES to a call on what is lent (01, "Answer numbers"). Each is said by itself: neither by the refusals of the
--- definitions, nor by a lower number's not applying. Lowest.antt proves that a call is answered by the lowest. Assumes nothing.
+-- definitions, nor by a lower number's not applying. proofs/Lowest.antt proves that a call is answered by the lowest. Assumes nothing.
 use Rattle.std.specs.Prelude.{◌≡◌, Bool, true, false, not, ◌&&◌, ◌||◌, List, [], ◌∷◌, ℕ, zero, suc, ◌+◌, ◌<◌, length, get_or, eqb, ltb}
 use Rattle.laws.specs.Lists.{every}
 use Rattle.laws.specs.Sums.{sum}

@@ -1,2 +1,2 @@
-// The three demands: theorems over every history of calls. The crate is its specs/.
+// The three demands: theorems over every history of calls. The definitions stand in specs/, the theorems in proofs/.
 #![tactic(auto)]

@@ -1,7 +1,6 @@
 -- FIELDS ONE AFTER ANOTHER, each of its width: a layout is a list of them; and records of one size one after another. Assumes nothing.
 --     laid-length, laid-split   how long a layout is; its first fields and the others
 --     laid-drop, field-at       what stands from field i on, and at it
---     field-over                a part of field i replaced
 --     laid_from                 octets whose parts are a record's fields are its layout
 --     record-at, record-over    one of an array of records read, and replaced
 --     pairs-at, pairs-from      two octets for each of a list

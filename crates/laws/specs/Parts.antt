@@ -2,7 +2,6 @@
 --     part_left     a part of x ++ y that lies in x
 --     over-same     what was put is what is there
 --     over-before   a part before it is as it was
---     over-in       a part that holds it changes as the whole does
 use Rattle.std.specs.Prelude.{ℕ, ◌+◌, ◌≤◌, ◌≡◌, List, ◌++◌, length, take, drop}
 use Rattle.std.proofs.Common.{sym, ap, ◌∙◌, append_assoc, arith, length-append, length-take, length-drop, take-append-drop, length-take-le, drop_at, drop-drop}
 use borrow.Rule.Slice.PartMut.{put_mid}

@@ -1,4 +1,4 @@
-// What says nothing of document 01: in specs/ the laws of shut tests, lists, fields, sums; here the few functions that every floor calls.
+// What says nothing of document 01: in specs/ (two in proofs/) the laws of shut tests, lists, fields, sums; here the few functions that every floor calls.
 #![tactic(auto)]
 
 ghost use Rattle.std.specs.Prelude.{◌≡◌, ◌<◌, ◌%◌};

@@ -1,4 +1,4 @@
-// The lines of standard input played on one table. There are no function values, so the one loop is over whose lines they are.
+// The lines of standard input played on one table. One loop, over whose lines they are.
 #![tactic(auto)]
 
 ghost use Rattle.std.specs.Prelude.{◌≤◌, length};

@@ -1,2 +1,2 @@
-// What every table that keeps the rules is, and what storing one place does to its octets: laws in specs/, once for all calls.
+// What every table that keeps the rules is, and what storing one place does to its octets: laws in proofs/, once for all calls.
 #![tactic(auto)]
