@@ -5,7 +5,7 @@ use Rattle.std.proofs.Common.{ap, ◌∙◌, arith, eqb-true}
 use Rattle.laws.specs.If.{if_lt, if_b, lt, ge, eq, yes, no, by-eq}
 use Rattle.paper.specs.Sizes.{most_waiting}
 use Rattle.paper.specs.Dialogues.{is_code, is_parameter, is_result}
-use Rattle.paper.specs.declared.Reading.{Reading}
+use Rattle.paper.specs.Elements.{Reading}
 use Rattle.paper.specs.Elements.{element, ends_at, is_element}
 use Rattle.writing_octets.specs.Lengths.{element_size, result_size, length-small, none-size, both-size}
 

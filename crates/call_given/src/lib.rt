@@ -18,8 +18,8 @@ pub fn is_element(l: &[u8], left: usize) -> bool
 {
     let n = l.len();
     match reading_elements::element(l, left, n, 0) {
-        Reading::Ends(e) => e == n,
-        Reading::Fault(_f) => false,
+        Ok(e) => e == n,
+        Err(_f) => false,
     }
 }
 

@@ -6,8 +6,8 @@ use Rattle.std.proofs.Math.Bool.{true, false}
 use mathlib.Core.List.{List, [], ◌∷◌}
 use Prim.Native.Nat.{ℕ, zero, suc, ◌+◌, ◌-◌, ◌≤◌, ◌<◌}
 use Rattle.laws.specs.If.{eq, ne, lt, by-eq, by-lt, by-b}
-use Rattle.paper.specs.declared.Reading.{Reading}
-use Rattle.paper.specs.declared.Reading.TheVariants.{Ends, Fault}
+use Rattle.paper.specs.Elements.{Reading}
+use Rattle.std.specs.Prelude.{Ok, Err}
 use Rattle.paper.specs.declared.Frame.{Frame}
 use Rattle.paper.specs.declared.Component.{Component}
 use Rattle.paper.specs.declared.Control.{Control}
@@ -46,8 +46,8 @@ module _ (r : Component) (sound : r.fault ≡ 3) (other : r.tag ≡ reject_tag �
 
       go : (y : Reading) → r ≡ if_nested y (pieces s (tag_at s lim at) f.stop f.to f.from)
           (faulty (tag_at s lim at) (single s 2 f.to f.from) (read_problem s (tag_at s lim at) f.to f.from) 2 f.stop) → ⊥
-      go (Ends y) z = pieces-named s (tag_at s lim at) f.stop f.to f.from z n
-      go (Fault y) z = not-faulty (omega arith) z
+      go (Ok y) z = pieces-named s (tag_at s lim at) f.stop f.to f.from z n
+      go (Err y) z = not-faulty (omega arith) z
 
 pub component-readable : (s : List ℕ) → Octets s → (lim at : ℕ) → Readable (component_at s lim at)
 component-readable s octets lim at =

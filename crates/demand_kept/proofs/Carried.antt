@@ -7,8 +7,8 @@ use borrow.Author.Tests.{eqb-true, eq-eqb}
 use Rattle.laws.specs.If.{if_eq, eq, ne, lt, ge, yes, by-eq, by-lt, by-b}
 use Rattle.paper.specs.declared.Length.{Length}
 use Rattle.paper.specs.declared.Length.TheVariants.{Wrong, Given, Until}
-use Rattle.paper.specs.declared.Reading.{Reading}
-use Rattle.paper.specs.declared.Reading.TheVariants.{Ends, Fault}
+use Rattle.paper.specs.Elements.{Reading}
+use Rattle.std.specs.Prelude.{Ok, Err}
 use Rattle.paper.specs.declared.Frame.{Frame}
 use Rattle.paper.specs.declared.Component.{Component}
 use Rattle.paper.specs.Elements.{length_at, element, frame_at}
@@ -208,8 +208,8 @@ component-stop s lim at r z =
 
     go : (y : Reading) → r ≡ if_nested y (pieces s (tag_at s lim at) f.stop f.to f.from)
         (faulty (tag_at s lim at) (single s 2 f.to f.from) (read_problem s (tag_at s lim at) f.to f.from) 2 f.stop) → r.stop ≡ f.stop
-    go (Ends y) z = ap (λ (c : Component). c.stop) z ∙ pieces-stop s (tag_at s lim at) f.stop f.to f.from
-    go (Fault y) z = ap (λ (c : Component). c.stop) z
+    go (Ok y) z = ap (λ (c : Component). c.stop) z ∙ pieces-stop s (tag_at s lim at) f.stop f.to f.from
+    go (Err y) z = ap (λ (c : Component). c.stop) z
 
 pub component-framed : (s : List ℕ) (lim at : ℕ) (r : Component) → r ≡ component_at s lim at → r.fault ≡ 3 → 0 < r.stop
 unfolding component_at
@@ -234,15 +234,15 @@ component-carry s t k lim lim' at q eq-q r is good fits same =
         → r ≡ if_nested y (pieces s (tag_at s lim at) f.stop f.to f.from)
         (faulty (tag_at s lim at) (single s 2 f.to f.from) (read_problem s (tag_at s lim at) f.to f.from) 2 f.stop)
         → further k r ≡ if_eq g.stop 0 (faulty (tag_at t lim' q) no_id no_problem 2 0) (framed t lim' q (tag_at t lim' q) g)
-    go a known (Fault y) i z = never s t k f.stop r good (omega arith) z
-    go a known (Ends y) i z =
+    go a known (Err y) i z = never s t k f.stop r good (omega arith) z
+    go a known (Ok y) i z =
         let ends : r.stop ≡ f.stop = component-stop s lim at r is in
         let w = frame-in s 16 lim at f refl in
         let past = w.past (omega arith) in
         let end : f.stop ≡ y = ends-frame s 16 lim at y i in
         let m : ℕ = tag_at s lim at in
         let fc : up_frame k f ≡ g = frame-carry s t k 16 16 lim lim' at q (omega arith) f refl (omega arith) eq-q (omega arith) (λ i l u. same i l (omega arith)) in
-        let ec : Ends (k + y) ≡ element t 16 lim' q = element-carry s t k 16 16 (omega arith) lim lim' at q y i eq-q (omega arith) (λ i l u. same i l (omega arith)) in
+        let ec : Ok (k + y) ≡ element t 16 lim' q = element-carry s t k 16 16 (omega arith) lim lim' at q y i eq-q (omega arith) (λ i l u. same i l (omega arith)) in
         let o : get_or t q 0 ≡ get_or s at 0 = octet s t k r.stop at at q same (omega arith) (omega arith) eq-q in
         let here : get_or s at 0 ≡ m = lt _ _ _ _ (omega arith) refl in
         let there : get_or t q 0 ≡ tag_at t lim' q = lt _ _ _ _ (omega arith) refl in

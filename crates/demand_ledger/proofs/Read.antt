@@ -4,8 +4,8 @@ use Rattle.std.proofs.Common.{sym, ap, ◌∙◌, arith}
 use Rattle.laws.specs.If.{eq, ne}
 use Rattle.paper.specs.declared.Length.{Length}
 use Rattle.paper.specs.declared.Length.TheVariants.{Wrong, Given, Until}
-use Rattle.paper.specs.declared.Reading.{Reading}
-use Rattle.paper.specs.declared.Reading.TheVariants.{Ends, Fault}
+use Rattle.paper.specs.Elements.{Reading}
+use Rattle.std.specs.Prelude.{Ok, Err}
 use Rattle.paper.specs.declared.Run.{Run}
 use Rattle.paper.specs.declared.Message.{Message}
 use Rattle.paper.specs.Sizes.{depths}
@@ -43,8 +43,8 @@ module _ (s : List ℕ) (o : Bool) (d : Derived) where
       whether-eq Of _ _ _ _ (whether-eq Of _ _ _ _ bad-of (closing-of _ _ (sound-of _ _ _ _))) (whether-eq Of _ _ _ _ bad-of (closing-of _ _ (sound-of _ _ _ _)))
 
   after-of : (p : ℕ) (r : Reading) → Of (after_portion s o d p r)
-  after-of p (Fault f) = bad-of
-  after-of p (Ends x) = whether-eq Of _ _ _ _ (closing-of _ _ (sound-of _ _ _ _)) (components-of _ x)
+  after-of p (Err f) = bad-of
+  after-of p (Ok x) = whether-eq Of _ _ _ _ (closing-of _ _ (sound-of _ _ _ _)) (components-of _ x)
 
   abort-of : (p : ℕ) → Of (abort_part s o d p)
   unfolding abort_part

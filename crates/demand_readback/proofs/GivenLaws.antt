@@ -7,8 +7,8 @@ use Rattle.paper.specs.declared.Length.{Length}
 use Rattle.paper.specs.declared.Length.TheVariants.{Wrong, Given, Until}
 use Rattle.paper.specs.declared.Head.{Head}
 use Rattle.paper.specs.declared.Head.TheVariants.{Bad, Whole, Holds, Opens}
-use Rattle.paper.specs.declared.Reading.{Reading}
-use Rattle.paper.specs.declared.Reading.TheVariants.{Ends, Fault}
+use Rattle.paper.specs.Elements.{Reading}
+use Rattle.std.specs.Prelude.{Ok, Err}
 use Rattle.paper.specs.Elements.{constructor, length_at, head_at, contents, by_head, element, frame_to, frame_by, frame_at, ends_at, is_element}
 use Rattle.paper.specs.Components.{some_end, code_end}
 use Rattle.paper.specs.Dialogues.{is_code}
@@ -20,33 +20,33 @@ use Rattle.demand_readback.proofs.Standing.{has_same, whole-head}
 use Rattle.demand_readback.specs.Given.{Code}
 
 -- AN ELEMENT BY ITSELF stays one wherever it stands, with as many depths left
-pub ended_at : (n : ℕ) (r : Reading) → ends_at n r ≡ true → Ends n ≡ r
-ended_at n (Ends e) h = ap Ends (sym (eqb-true e n h))
-ended_at n (Fault f) h = absurd (true-false (sym h))
+pub ended_at : (n : ℕ) (r : Reading) → ends_at n r ≡ true → Ok n ≡ r
+ended_at n (Ok e) h = ap Ok (sym (eqb-true e n h))
+ended_at n (Err f) h = absurd (true-false (sym h))
 
 module _ {s l : List ℕ} {p : ℕ} (has : Has s p l) (lim : ℕ) (room : p + length l ≤ lim) where
-  pub element-copied : (d : ℕ) → is_element d l ≡ true → Ends (p + length l) ≡ element s d lim p
+  pub element-copied : (d : ℕ) → is_element d l ≡ true → Ok (p + length l) ≡ element s d lim p
   unfolding is_element
   element-copied d h =
       element-carry l s p d d (omega arith) (length l) lim 0 p (length l) (ended_at (length l) (element l d (length l) 0) h) (sym (add-zero p)) room (has_same has)
 
 -- where a well-formed element's frame ends
-pub ends-frame : (s : List ℕ) (d lim at x : ℕ) → Ends x ≡ element s d lim at → (frame_at s d lim at).stop ≡ x
+pub ends-frame : (s : List ℕ) (d lim at x : ℕ) → Ok x ≡ element s d lim at → (frame_at s d lim at).stop ≡ x
 unfolding frame_at element
 ends-frame s zero lim at x h = absurd (let z : ◌≡◌ {A = ℕ} 0 1 = cc in omega arith)
 ends-frame s (suc d) lim at x h = go (head_at s lim at) refl h
   where
-    to : (b : ℕ) (r : Reading) → Ends x ≡ r → (frame_to b r).stop ≡ x
-    to b (Ends y) q = cc
-    to b (Fault y) q = absurd (let z : ◌≡◌ {A = ℕ} 0 1 = cc in omega arith)
+    to : (b : ℕ) (r : Reading) → Ok x ≡ r → (frame_to b r).stop ≡ x
+    to b (Ok y) q = cc
+    to b (Err y) q = absurd (let z : ◌≡◌ {A = ℕ} 0 1 = cc in omega arith)
 
-    go : (g : Head) → g ≡ head_at s lim at → Ends x ≡ by_head g lim at (λ o e b. contents (element s d) s o e at (suc e) b)
+    go : (g : Head) → g ≡ head_at s lim at → Ok x ≡ by_head g lim at (λ o e b. contents (element s d) s o e at (suc e) b)
         → (frame_by g (λ _. element s (suc d) lim at)).stop ≡ x
     go Bad i q = absurd (let z : ◌≡◌ {A = ℕ} 0 1 = cc in omega arith)
     go (Whole e) i q = cc
     go (Holds b e) i q =
         let w = head_in s lim at (Holds b e) i in
-        let v = contents-in (element s d) s (element-in s d) false e at (suc e) b (Ends x) (omega arith) (omega arith) q in
+        let v = contents-in (element s d) s (element-in s d) false e at (suc e) b (Ok x) (omega arith) (omega arith) q in
         sym (v.2 refl)
     go (Opens b) i q = to b (element s (suc d) lim at) (q ∙ ap (λ (g : Head). by_head g lim at (λ o e b. contents (element s d) s o e at (suc e) b)) i)
 
@@ -108,15 +108,15 @@ module _ {s l : List ℕ} {p : ℕ} (has : Has s p l) (lim : ℕ) (room : p + le
       code.tag)
 
   -- and is an element
-  pub code-element : (d : ℕ) → (d ≡ 0 → ⊥) → Ends (p + length l) ≡ element s d lim p
+  pub code-element : (d : ℕ) → (d ≡ 0 → ⊥) → Ok (p + length l) ≡ element s d lim p
   code-element d deep =
       ⊎_elim (λ t. is 2 ((λ z. omega arith), (λ z. omega arith)) (first ∙ t.0) refl) (λ t. is 6 ((λ z. omega arith), (λ z. omega arith)) (first ∙ t) refl) code.tag
     where
-      is : (t : ℕ) → ShortTag t → get_or s p 0 ≡ t → constructor t ≡ 0 → Ends (p + length l) ≡ element s d lim p
+      is : (t : ℕ) → ShortTag t → get_or s p 0 ≡ t → constructor t ≡ 0 → Ok (p + length l) ≡ element s d lim p
       is t short octet k =
           let w = in-l in
           let z : p + length l ≡ p + code.start + code.count = omega (arith, code.whole) in
-          ap Ends z ∙ by-head s d lim p (Whole (p + code.start + code.count)) deep
+          ap Ok z ∙ by-head s d lim p (Whole (p + code.start + code.count)) deep
           (whole-head s lim p t (p + code.start) code.count short octet (omega (arith, code.whole, code.least)) given-copied (omega (arith, code.whole)) k)
 
   -- it begins with neither 80 nor another tag of a context

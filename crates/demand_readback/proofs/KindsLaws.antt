@@ -6,7 +6,7 @@ use Rattle.std.proofs.Math.Path.{refl, ap}
 use Rattle.std.proofs.Common.{sym, ◌∙◌, ⊎_elim, eq-eqb}
 use Rattle.std.proofs.Math.ListN.{length, get_or, length-append}
 use Rattle.laws.specs.If.{if_eq, lt, ge, eq, ne, yes, by-lt}
-use Rattle.paper.specs.declared.Reading.TheVariants.{Ends}
+use Rattle.std.specs.Prelude.{Ok}
 use Rattle.paper.specs.declared.Frame.{Frame}
 use Rattle.paper.specs.Elements.{element, frame_at, is_element}
 use Rattle.paper.specs.Problems.{sender_of, sender_of_problem, by_nobody, kind_of, code_of, no_problem}
@@ -83,7 +83,7 @@ module _ {s : List ℕ} {b e : ℕ} (t id : ℕ) (tag : ResultTag t) (small : id
       record { has = has_rest (2 ∷ 1 ∷ id ∷ []) (tlv 0x30 (op ++ par)) has; short = ((λ z. omega arith), (λ z. omega arith)); fits = fits; room = omega arith } in
       let g : Both s (begins p n) (ends p n) 14 op par =
       record { has = contents-back w; whole = omega (arith, length-append op par); code = code; deep = λ z. omega arith; formed = λ _. formed } in
-      let inner : Ends (ends p n) ≡ element s 15 e p = holds-back w refl 15 (λ z. omega arith) (both-parts g) in
+      let inner : Ok (ends p n) ≡ element s 15 e p = holds-back w refl 15 (λ z. omega arith) (both-parts g) in
       let frame = frame_back w refl 15 in
       let f : Frame = record { from = begins p n; to = ends p n; stop = ends p n } in
       let stop : ends p n ≡ (frame_at s 15 e p).stop = ap (λ (f : Frame). f.stop) frame in
@@ -116,7 +116,7 @@ module _ {s : List ℕ} {q e : ℕ} (p : ℕ) (by : sender_of_problem p ≡ by_n
       let same : sender_of (get_or s q 0 - 0x80) (get_or s (q + 2) 0) ≡ sender_of_problem p = cc in
       eq _ _ _ _ (omega arith) (ge _ _ _ _ (omega arith) (eq _ _ _ _ one (ne _ _ _ _ (λ z. by (sym same ∙ z)) (omega arith))))
 
-  pub problem-element : Ends (q + 3) ≡ element s 15 e q
+  pub problem-element : Ok (q + 3) ≡ element s 15 e q
   unfolding problem_octets
   problem-element =
       let k : p < 1024 = problem-small p by in

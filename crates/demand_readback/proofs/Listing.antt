@@ -7,7 +7,7 @@ use mathlib.Core.List.{List, [], ◌∷◌, ◌++◌}
 use Rattle.std.proofs.Math.ListN.{length, length-append}
 use Rattle.laws.specs.If.{if_eq, eq, yes, by-eq, was-yes, true-false}
 use Rattle.laws.specs.Lists.{every}
-use Rattle.paper.specs.declared.Reading.TheVariants.{Ends}
+use Rattle.std.specs.Prelude.{Ok}
 use Rattle.paper.specs.declared.Component.{Component}
 use Rattle.paper.specs.Elements.{element, is_element}
 use Rattle.paper.specs.Problems.{no_problem}
@@ -62,7 +62,7 @@ result-empty op par h none = by-eq _ _ _ _ (sym h) (λ z e. eqb-true (length par
 
 pub element-some : (d : ℕ) (l : List ℕ) → is_element d l ≡ true → length l ≡ 0 → ⊥
 unfolding is_element
-element-some d l h z = let w = element-in l d (length l) 0 (Ends (length l)) (ended_at (length l) (element l d (length l) 0) h) in omega arith
+element-some d l h z = let w = element-in l d (length l) 0 (Ok (length l)) (ended_at (length l) (element l d (length l) 0) h) in omega arith
 
 -- A COMPONENT where it stands is read as it was put in
 module _ (s : List ℕ) (lim at : ℕ) where

@@ -5,8 +5,8 @@ use Rattle.std.specs.Prelude.{◌≡◌, true, List, ◌∷◌, get_or}
 use Rattle.std.proofs.Math.Path.{refl, ap}
 use Rattle.std.proofs.Math.ListN.{length}
 use Rattle.laws.specs.If.{if_lt, if_eq, lt, ge, eq, ne, yes, by-eq}
-use Rattle.paper.specs.declared.Reading.{Reading}
-use Rattle.paper.specs.declared.Reading.TheVariants.{Ends}
+use Rattle.paper.specs.Elements.{Reading}
+use Rattle.std.specs.Prelude.{Ok}
 use Rattle.paper.specs.declared.Frame.{Frame}
 use Rattle.paper.specs.declared.Component.{Component}
 use Rattle.paper.specs.Sizes.{depths}
@@ -28,19 +28,19 @@ module _ {s : List ℕ} {p t v : ℕ} {rest : List ℕ} (has : Has s p (t ∷ 1 
   single-back =
       ge _ _ _ _ room (eq _ _ _ _ (has-head has) (eq _ _ _ _ (has.octet 1 (omega arith)) (sym (has.octet 2 (omega arith)))))
 
-  pub single-element : (d : ℕ) → (d ≡ 0 → ⊥) → ShortTag t → constructor t ≡ 0 → Ends (p + 3) ≡ element s d e p
+  pub single-element : (d : ℕ) → (d ≡ 0 → ⊥) → ShortTag t → constructor t ≡ 0 → Ok (p + 3) ≡ element s d e p
   single-element d deep short k =
       let z : p + 3 ≡ p + 1 + 1 + 1 = omega arith in
-      ap Ends z ∙ short-element s e p t 1 short (has-head has) (has.octet 1 (omega arith)) (omega arith) (omega arith) d deep k
+      ap Ok z ∙ short-element s e p t 1 short (has-head has) (has.octet 1 (omega arith)) (omega arith) (omega arith) d deep k
 
 -- `05 00`
-pub null-element : (s : List ℕ) (e p : ℕ) {rest : List ℕ} → Has s p (5 ∷ 0 ∷ rest) → p + 2 ≤ e → (d : ℕ) → (d ≡ 0 → ⊥) → Ends (p + 2) ≡ element s d e p
+pub null-element : (s : List ℕ) (e p : ℕ) {rest : List ℕ} → Has s p (5 ∷ 0 ∷ rest) → p + 2 ≤ e → (d : ℕ) → (d ≡ 0 → ⊥) → Ok (p + 2) ≡ element s d e p
 null-element s e p has room d deep =
     let z : p + 2 ≡ p + 1 + 1 + 0 = omega arith in
-    ap Ends z ∙ short-element s e p 5 0 ((λ z. omega arith), (λ z. omega arith)) (has-head has) (has.octet 1 (omega arith)) (omega arith) (omega arith) d deep refl
+    ap Ok z ∙ short-element s e p 5 0 ((λ z. omega arith), (λ z. omega arith)) (has-head has) (has.octet 1 (omega arith)) (omega arith) (omega arith) d deep refl
 
 module _ {s : List ℕ} {p e d : ℕ} {op par : List ℕ} (g : Both s p e d op par) where
-  par-element : (length par ≡ 0 → ⊥) → Ends (p + length op + length par) ≡ element s d e (p + length op)
+  par-element : (length par ≡ 0 → ⊥) → Ok (p + length op + length par) ≡ element s d e (p + length op)
   par-element some = element-copied (has_rest op par g.has) e (omega arith) d (g.formed some)
 
   pub both-parts : Parts s d e p
@@ -82,7 +82,7 @@ module _ {s : List ℕ} {p e : ℕ} {op par : List ℕ} (g : Both s p e 15 op pa
 
 -- THE COMPONENT, of its pieces
 module _ {s : List ℕ} {lim at t : ℕ} {c : List ℕ} (w : Stands s lim at t c) where
-  component-element : constructor t ≡ 1 → {x : Component} → Reads s t (begins at (length c)) (ends at (length c)) x → Ends (ends at (length c)) ≡ element s depths lim at
+  component-element : constructor t ≡ 1 → {x : Component} → Reads s t (begins at (length c)) (ends at (length c)) x → Ok (ends at (length c)) ≡ element s depths lim at
   component-element cons r = holds-back w cons depths (λ z. omega arith) r.parts
 
   pub component-back : constructor t ≡ 1 → known_tag t ≡ true → {x : Component} → Reads s t (begins at (length c)) (ends at (length c)) x → x ≡ component_at s lim at

@@ -5,7 +5,7 @@ use Rattle.std.proofs.Math.Path.{refl, sym, ap}
 use Rattle.std.proofs.Math.ListN.{length, length-append}
 use borrow.Author.Tests.{eq-eqb}
 use Rattle.laws.specs.If.{lt, eq, ne, yes, no, either_lt, either-eq}
-use Rattle.paper.specs.declared.Reading.TheVariants.{Ends}
+use Rattle.std.specs.Prelude.{Ok}
 use Rattle.paper.specs.declared.Frame.{Frame}
 use Rattle.paper.specs.Sizes.{depths}
 use Rattle.paper.specs.Elements.{element, no_frame, ends_at, is_element}
@@ -114,7 +114,7 @@ module _ (c : List ℕ) (few : length (tlv 0x6B (tlv 0x28 c)) < 65536) where
       let last : ends 0 (length (tlv 0x28 c)) ≡ length octets = one-ends 0x6B (tlv 0x28 c) all short in
       let in-it : Elements octets 15 (length octets) (begins 0 (length (tlv 0x28 c))) =
       one-parts 0x28 c middle ((λ z. omega arith), (λ z. omega arith)) refl 15 (λ z. omega arith) parts in
-      let is : Ends (ends 0 (length (tlv 0x28 c))) ≡ element octets depths (length octets) 0 =
+      let is : Ok (ends 0 (length (tlv 0x28 c))) ≡ element octets depths (length octets) 0 =
       holds-back (one-stands 0x6B (tlv 0x28 c) all short) refl depths (λ z. omega arith)
       (subst (λ (x : ℕ). Elements octets 15 x (begins 0 (length (tlv 0x28 c)))) (sym last) in-it) in
       sym (ap (ends_at (length octets)) is) ∙ eq-eqb (ends 0 (length (tlv 0x28 c))) (length octets) last

@@ -7,7 +7,7 @@ use Rattle.laws.specs.If.{lt, ge, eq, ne, by-lt}
 use Rattle.paper.specs.declared.Length.TheVariants.{Given}
 use Rattle.paper.specs.declared.Head.{Head}
 use Rattle.paper.specs.declared.Head.TheVariants.{Whole, Holds}
-use Rattle.paper.specs.declared.Reading.TheVariants.{Ends}
+use Rattle.std.specs.Prelude.{Ok}
 use Rattle.paper.specs.Elements.{tag_end, length_at, constructor, head_by, head_at, ended, contents, element, frame_by, frame_at}
 use Rattle.paper.specs.Writing.{length_octets, tlv}
 use Rattle.reading_elements.specs.Bounds.{element-in}
@@ -104,7 +104,7 @@ module _ (s : List ℕ) (lim at t b n : ℕ) (short : ShortTag t) (octet : get_o
 
 -- a primitive of few octets
 pub short-element : (s : List ℕ) (lim at t n : ℕ) → ShortTag t → get_or s at 0 ≡ t → get_or s (at + 1) 0 ≡ n → n < 128 → at + 1 + 1 + n ≤ lim
-    → (d : ℕ) → (d ≡ 0 → ⊥) → constructor t ≡ 0 → Ends (at + 1 + 1 + n) ≡ element s d lim at
+    → (d : ℕ) → (d ≡ 0 → ⊥) → constructor t ≡ 0 → Ok (at + 1 + 1 + n) ≡ element s d lim at
 unfolding length_at
 short-element s lim at t n short octet count few room d deep k =
     by-head s d lim at (Whole (at + 1 + 1 + n)) deep
@@ -112,12 +112,12 @@ short-element s lim at t n short octet count few room d deep k =
     (lt _ _ _ _ (omega arith) (lt _ _ _ _ (omega arith) (ap (Given (at + 1 + 1)) (sym count)))) room k)
 
 -- are contents
-pub parts-back : {s : List ℕ} {d e p : ℕ} → Parts s d e p → (outer n : ℕ) → e - p < n → Ends e ≡ contents (element s d) s false e outer n p
+pub parts-back : {s : List ℕ} {d e p : ℕ} → Parts s d e p → (outer n : ℕ) → e - p < n → Ok e ≡ contents (element s d) s false e outer n p
 unfolding ended
-parts-back {s} {d} {e} {p} (done z) outer n h = ap Ends (sym z) ∙ at-end (element s d) s false e outer n p h false refl (sym (eq-eqb p e z))
+parts-back {s} {d} {e} {p} (done z) outer n h = ap Ok (sym z) ∙ at-end (element s d) s false e outer n p h false refl (sym (eq-eqb p e z))
 parts-back {s} {d} {e} {p} (more {q = q} c r) outer n h =
-    let w = element-in s d e p (Ends q) c in
-    next (element s d) s false e outer n p h (Ends q) (Ends e) (sym (ne_eqb p e (λ z. omega arith))) (λ z. omega arith) c (parts-back r outer (n - 1) (omega arith))
+    let w = element-in s d e p (Ok q) c in
+    next (element s d) s false e outer n p h (Ok q) (Ok e) (sym (ne_eqb p e (λ z. omega arith))) (λ z. omega arith) c (parts-back r outer (n - 1) (omega arith))
 
 module _ {s : List ℕ} {lim at t : ℕ} {c : List ℕ} (w : Stands s lim at t c) where
   pub octet-back : get_or s at 0 ≡ t
@@ -137,7 +137,7 @@ module _ {s : List ℕ} {lim at t : ℕ} {c : List ℕ} (w : Stands s lim at t c
     head-back : Holds (begins at (length c)) (ends at (length c)) ≡ head_at s lim at
     head-back = holds-head s lim at t (begins at (length c)) (length c) w.short octet-back (omega arith) given_back w.room cons
 
-    pub holds-back : (d : ℕ) → (d ≡ 0 → ⊥) → Parts s (d - 1) (ends at (length c)) (begins at (length c)) → Ends (ends at (length c)) ≡ element s d lim at
+    pub holds-back : (d : ℕ) → (d ≡ 0 → ⊥) → Parts s (d - 1) (ends at (length c)) (begins at (length c)) → Ok (ends at (length c)) ≡ element s d lim at
     holds-back d deep parts =
         parts-back parts at (suc (ends at (length c))) (omega arith) ∙ by-head s d lim at (Holds (begins at (length c)) (ends at (length c))) deep head-back
 

@@ -4,7 +4,7 @@ use Rattle.std.specs.Prelude.{ℕ, ◌+◌, ◌-◌, ◌≡◌, length, get_or}
 use Rattle.std.proofs.Math.Path.{refl}
 use mathlib.Core.List.{List, [], ◌∷◌, ◌++◌}
 use Rattle.laws.specs.If.{lt, ge, eq, ne, either-eq}
-use Rattle.paper.specs.declared.Reading.TheVariants.{Ends}
+use Rattle.std.specs.Prelude.{Ok}
 use Rattle.paper.specs.declared.Head.TheVariants.{Whole}
 use Rattle.paper.specs.declared.Frame.{Frame}
 use Rattle.paper.specs.Elements.{constructor, element, frame_at, no_frame}
@@ -40,7 +40,7 @@ module _ {l : List ℕ} {e at : ℕ} where
       record { has = has_first (tlv t c) rest u.has; short = short; fits = omega (arith, u.whole, u.inside, u.few); room = omega (arith, u.whole) }
 
 -- a written primitive
-pub whole_back : {s : List ℕ} {lim at t : ℕ} {c : List ℕ} → Stands s lim at t c → constructor t ≡ 0 → (d : ℕ) → (d ≡ 0 → ⊥) → Ends (ends at (length c)) ≡ element s d lim at
+pub whole_back : {s : List ℕ} {lim at t : ℕ} {c : List ℕ} → Stands s lim at t c → constructor t ≡ 0 → (d : ℕ) → (d ≡ 0 → ⊥) → Ok (ends at (length c)) ≡ element s d lim at
 whole_back {s} {lim} {at} {t} {c} w prim d deep =
     by-head s d lim at (Whole (ends at (length c))) deep
     (whole-head s lim at t (begins at (length c)) (length c) w.short (octet-back w) (omega (arith, w.room)) (given_back w) w.room prim)

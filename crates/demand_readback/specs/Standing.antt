@@ -1,7 +1,7 @@
 -- Octets that stand in a list; written elements read where they stand. Assumes nothing.
 use Rattle.std.specs.Prelude.{ℕ, ◌+◌, ◌%◌, ◌<◌, ◌≤◌, ◌≡◌, List, length}
 use Rattle.std.proofs.Math.ListN.{get_or}
-use Rattle.paper.specs.declared.Reading.TheVariants.{Ends}
+use Rattle.std.specs.Prelude.{Ok}
 use Rattle.paper.specs.Elements.{element}
 use Rattle.paper.specs.Writing.{length_octets, tlv}
 
@@ -16,7 +16,7 @@ ShortTag t = (t ≡ 0 → ⊥) × (t % 32 ≡ 31 → ⊥)
 -- elements one after another, from a position up to e
 pub data Parts (s : List ℕ) (d e : ℕ) : ℕ → Type 0 where
   done : {p : ℕ} → p ≡ e → Parts s d e p
-  more : {p q : ℕ} → Ends q ≡ element s d e p → Parts s d e q → Parts s d e p
+  more : {p q : ℕ} → Ok q ≡ element s d e p → Parts s d e q → Parts s d e p
 
 -- AN ELEMENT that was written, where it stands: its contents, n octets, begin at `begins at n` and end at `ends at n`
 abbrev pub begins : ℕ → ℕ → ℕ

@@ -3,8 +3,8 @@ use Rattle.std.specs.Prelude.{Bool, true, false, List, [], ◌∷◌, ℕ, zero,
 use Rattle.laws.specs.If.{if_lt, if_eq, if_b}
 use Rattle.paper.specs.declared.Length.{Length}
 use Rattle.paper.specs.declared.Length.TheVariants.{Wrong, Given, Until}
-use Rattle.paper.specs.declared.Reading.{Reading}
-use Rattle.paper.specs.declared.Reading.TheVariants.{Ends, Fault}
+use Rattle.paper.specs.Elements.{Reading}
+use Rattle.std.specs.Prelude.{Ok, Err}
 use Rattle.paper.specs.declared.Frame.{Frame}
 use Rattle.paper.specs.declared.Component.{Component}
 use Rattle.paper.specs.Sizes.{depths, depths_from}
@@ -158,8 +158,8 @@ pieces s t x e b =
 
 -- go on with a component that is well formed
 abbrev pub if_nested : Reading → Component → Component → Component
-if_nested (Ends e) c f = c
-if_nested (Fault e) c f = f
+if_nested (Ok e) c f = c
+if_nested (Err e) c f = f
 
 -- the problem of one with bad nesting, whose contents stand from b to e: that of a faulty reject; no other has one
 unfoldable pub read_problem : List ℕ → ℕ → ℕ → ℕ → ℕ

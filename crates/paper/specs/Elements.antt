@@ -1,13 +1,15 @@
 -- ELEMENTS (01, "Coding"; 004). Positions into one list of octets; lim is where the octets around end. Assumes nothing.
-use Rattle.std.specs.Prelude.{List, Bool, true, false, ℕ, zero, suc, ◌+◌, ◌*◌, ◌-◌, ◌/◌, ◌%◌, length, get_or, eqb}
+use Rattle.std.specs.Prelude.{List, Bool, true, false, ℕ, zero, suc, ◌+◌, ◌*◌, ◌-◌, ◌/◌, ◌%◌, length, get_or, eqb, Result, Ok, Err}
 use Rattle.laws.specs.If.{if_lt, if_eq}
 use Rattle.paper.specs.declared.Length.{Length}
 use Rattle.paper.specs.declared.Length.TheVariants.{Wrong, Given, Until}
 use Rattle.paper.specs.declared.Head.{Head}
 use Rattle.paper.specs.declared.Head.TheVariants.{Bad, Whole, Holds, Opens}
-use Rattle.paper.specs.declared.Reading.{Reading}
-use Rattle.paper.specs.declared.Reading.TheVariants.{Ends, Fault}
 use Rattle.paper.specs.declared.Frame.{Frame}
+
+-- what the reading of an element gives: where it ends, or the octet at which its first fault lies
+abbrev pub Reading : Type 0
+Reading = Result ℕ ℕ
 
 -- past the last of at most n further octets of a long tag, else 0
 unfoldable pub tag_more : List ℕ → ℕ → ℕ → ℕ → ℕ
@@ -72,36 +74,36 @@ end_at false at = at
 
 -- go on from where an element ends; its fault is the fault of what holds it
 abbrev pub onwards : Reading → (ℕ → Reading) → Reading
-onwards (Ends e) k = k e
-onwards (Fault f) k = Fault f
+onwards (Ok e) k = k e
+onwards (Err f) k = Err f
 
 abbrev pub or_next : Bool → ℕ → (Unit {0} → Reading) → Reading
-or_next true e k = Ends e
+or_next true e k = Ok e
 or_next false e k = k tt
 
 -- "contents are if each of their elements is": the elements one after another, as el reads each, to their end.
 -- Where no end comes, the fault is that of the element around, which begins at `outer`. n is above what is left.
 unfoldable pub contents : (ℕ → ℕ → Reading) → List ℕ → Bool → ℕ → ℕ → ℕ → ℕ → Reading
-contents el s o lim outer zero at = Fault outer
+contents el s o lim outer zero at = Err outer
 contents el s o lim outer (suc n) at =
     or_next (ended s o lim at) (end_at o at)
-    (λ _. if_eq at lim (Fault outer) (onwards (el lim at) (λ e. contents el s o lim outer n e)))
+    (λ _. if_eq at lim (Err outer) (onwards (el lim at) (λ e. contents el s o lim outer n e)))
 
 abbrev pub by_head : Head → ℕ → ℕ → (Bool → ℕ → ℕ → Reading) → Reading
-by_head Bad lim at k = Fault at
-by_head (Whole e) lim at k = Ends e
+by_head Bad lim at k = Err at
+by_head (Whole e) lim at k = Ok e
 by_head (Holds b e) lim at k = k false e b
 by_head (Opens b) lim at k = k true lim b
 
 -- "An element is well formed if its contents are": one of at most d depths, at a position
 unfoldable pub element : List ℕ → ℕ → ℕ → ℕ → Reading
-element s zero lim at = Fault at
+element s zero lim at = Err at
 element s (suc d) lim at = by_head (head_at s lim at) lim at (λ o e b. contents (element s d) s o e at (suc e) b)
 
 -- octets that are ONE ELEMENT, with d depths to go, and nothing more
 abbrev pub ends_at : ℕ → Reading → Bool
-ends_at n (Ends e) = eqb e n
-ends_at n (Fault f) = false
+ends_at n (Ok e) = eqb e n
+ends_at n (Err f) = false
 
 unfoldable pub is_element : ℕ → List ℕ → Bool
 is_element d l = ends_at (length l) (element l d (length l) 0)
@@ -113,8 +115,8 @@ abbrev pub no_frame : Frame
 no_frame = record { from = 0; to = 0; stop = 0 }
 
 abbrev pub frame_to : ℕ → Reading → Frame
-frame_to b (Ends x) = record { from = b; to = x - 2; stop = x }
-frame_to b (Fault f) = no_frame
+frame_to b (Ok x) = record { from = b; to = x - 2; stop = x }
+frame_to b (Err f) = no_frame
 
 abbrev pub frame_by : Head → (Unit {0} → Reading) → Frame
 frame_by Bad r = no_frame

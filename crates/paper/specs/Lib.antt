@@ -25,3 +25,4 @@ pub mod Examples
 pub mod Cases
 pub mod LedgerCases
 pub mod PortionCases
+pub mod Refusals

@@ -3,8 +3,8 @@ use Rattle.std.specs.Prelude.{Bool, true, false, List, ℕ, suc, ◌+◌, ◌-�
 use Rattle.laws.specs.If.{if_lt, if_eq, if_b}
 use Rattle.paper.specs.declared.Length.{Length}
 use Rattle.paper.specs.declared.Length.TheVariants.{Wrong, Given, Until}
-use Rattle.paper.specs.declared.Reading.{Reading}
-use Rattle.paper.specs.declared.Reading.TheVariants.{Ends, Fault}
+use Rattle.paper.specs.Elements.{Reading}
+use Rattle.std.specs.Prelude.{Ok, Err}
 use Rattle.paper.specs.declared.Frame.{Frame}
 use Rattle.paper.specs.declared.Run.{Run}
 use Rattle.paper.specs.declared.Message.{Message}
@@ -121,8 +121,8 @@ abort_part s o d p =
 
 -- after a dialogue portion that ends at x: nothing more in an Abort
 abbrev pub after_portion : List ℕ → Bool → Derived → ℕ → Reading → Message
-after_portion s o d p (Fault f) = fault_of d 2
-after_portion s o d p (Ends x) =
+after_portion s o d p (Err f) = fault_of d 2
+after_portion s o d p (Ok x) =
     if_eq d.tag abort_tag (closing s o x d (sound_of d (record { start = p; length = x - p }) 0 0 no_problem))
     (components_part s o d (record { start = p; length = x - p }) x)
 

@@ -1,5 +1,8 @@
-// The types of document 01, by value. What they mean stands in specs/, a file for each section of 01; no function is here.
+// The types of document 01, by value. What they mean stands in specs/, a file for each section of 01; no function is here but what gives a refusal's and a PDU's number.
 #![tactic(auto)]
+
+ghost use Rattle.std.specs.Prelude.{◌≡◌};
+ghost use Rattle.paper.specs.Refusals.{number, pdu_number};
 
 // A length as it is coded: none of the four forms; (where the contents begin, how many octets); 80 (where they begin).
 #[derive(Clone, Copy)]
@@ -19,11 +22,7 @@ pub enum Head {
 }
 
 // What the reading of an element gives: where it ends, or the octet at which its first fault lies.
-#[derive(Clone, Copy)]
-pub enum Reading {
-    Ends(usize),
-    Fault(usize),
-}
+pub type Reading = Result<usize, usize>;
 
 // The frame of an element: its contents from, to, and where it stops; stop is 0 where there is no frame.
 #[derive(Clone, Copy)]
@@ -31,6 +30,14 @@ pub struct Frame {
     pub from: usize,
     pub to: usize,
     pub stop: usize,
+}
+
+impl Frame {
+    pub const NONE: Frame = Frame {
+        from: 0,
+        to: 0,
+        stop: 0,
+    };
 }
 
 // A component as it is read. IDs are octets, 256 none. fault: 3 sound, else the general problem code 0 to 2.
@@ -52,6 +59,13 @@ pub struct Component {
 pub struct Run {
     pub start: usize,
     pub length: usize,
+}
+
+impl Run {
+    pub const NONE: Run = Run {
+        start: 0,
+        length: 0,
+    };
 }
 
 // A message as it is read. fault: 255 sound, 254 dropped for its form, else the P-Abort cause 0 or 2.
@@ -140,6 +154,84 @@ pub struct Acted {
     pub control: Control,
     pub kind: u32,
     pub problem: u32,
+}
+
+// WHY A CALL IS REFUSED (01, "Answer numbers"), each by its name; its number is that of its place here, from 1 on (specs/Refusals).
+#[derive(Clone, Copy, PartialEq, Eq)]
+pub enum Refusal {
+    // a space lent is too small, or the table has another size
+    WrongSize,
+    // the table breaks a rule
+    BrokenTable,
+    // no such service
+    NoService,
+    // a received message of no octet or over 512
+    MessageSize,
+    // no such dialogue, or another service's
+    NoDialogue,
+    // the dialogue's state
+    WrongState,
+    // the share rule gives no place
+    NoPlace,
+    // a class or a problem
+    WrongCode,
+    // the state of an invocation
+    WrongInvocation,
+    // all invocations are in use
+    InvocationsFull,
+    // octets given are not one well-formed element of their kind
+    WrongOctets,
+    // over 240 octets would wait or be sent
+    TooLong,
+    // shares that no table takes
+    WrongShares,
+    // a dialogue portion in the wrong place (02 a)
+    WrongPortion,
+}
+
+impl From<Refusal> for u32 {
+    ghost from_gives = { λ why n. n ≡ number why };
+
+    fn from(why: Refusal) -> u32 {
+        match why {
+            Refusal::WrongSize => 1,
+            Refusal::BrokenTable => 2,
+            Refusal::NoService => 3,
+            Refusal::MessageSize => 4,
+            Refusal::NoDialogue => 5,
+            Refusal::WrongState => 6,
+            Refusal::NoPlace => 7,
+            Refusal::WrongCode => 8,
+            Refusal::WrongInvocation => 9,
+            Refusal::InvocationsFull => 10,
+            Refusal::WrongOctets => 11,
+            Refusal::TooLong => 12,
+            Refusal::WrongShares => 13,
+            Refusal::WrongPortion => 14,
+        }
+    }
+}
+
+// Which of the four dialogue PDUs (02 a): AARQ, AARE, ABRT, AUDT. As a number of a row it is 2 to 5 (specs/Portions).
+#[derive(Clone, Copy, PartialEq, Eq)]
+pub enum PduKind {
+    Request,
+    Response,
+    Abort,
+    Unidirectional,
+}
+
+impl From<PduKind> for u32 {
+    ghost from_gives = { λ kind n. n ≡ pdu_number kind };
+
+    fn from(kind: PduKind) -> u32 {
+        match kind {
+            PduKind::Request => 2,
+            PduKind::Response => 3,
+            PduKind::Abort => 4,
+            PduKind::Unidirectional => 5,
+        }
+    }
 }
 
 // ---- THE NUMBERS, named as in specs/.

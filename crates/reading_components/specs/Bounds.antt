@@ -6,8 +6,8 @@ use native.Mathlib.Omega.{arith}
 use Rattle.laws.specs.If.{by-lt, by-eq, by-b}
 use Rattle.paper.specs.declared.Length.{Length}
 use Rattle.paper.specs.declared.Length.TheVariants.{Wrong, Given, Until}
-use Rattle.paper.specs.declared.Reading.{Reading}
-use Rattle.paper.specs.declared.Reading.TheVariants.{Ends, Fault}
+use Rattle.paper.specs.Elements.{Reading}
+use Rattle.std.specs.Prelude.{Ok, Err}
 use Rattle.paper.specs.declared.Frame.{Frame}
 use Rattle.paper.specs.declared.Component.{Component}
 use Rattle.paper.specs.Sizes.{depths, depths_from}
@@ -221,8 +221,8 @@ component-in s octets lim at r z =
 
     go : (f.stop ≡ 0 → ⊥) → (x : Reading) → r ≡ if_nested x (pieces s (tag_at s lim at) f.stop f.to f.from)
         (faulty (tag_at s lim at) (single s 2 f.to f.from) (read_problem s (tag_at s lim at) f.to f.from) badly_structured f.stop) → ComponentIn (at + 5) lim r
-    go some (Fault y) z =
+    go some (Err y) z =
         bad-in (at + 5) lim f.stop w.ends (tag_at s lim at) (single s 2 f.to f.from) _ badly_structured r id
         (read-in (at + 5) lim f.stop w.ends s octets f.to w.inside (tag_at s lim at) f.from _ refl) (omega arith) z
-    go some (Ends y) z =
+    go some (Ok y) z =
         longer (at + 5) (f.from + 3) lim r (omega (arith, w.past (omega arith))) (pieces-in lim f.stop w.ends s octets f.to w.inside f.from (tag_at s lim at) r z)

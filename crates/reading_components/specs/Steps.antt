@@ -6,8 +6,8 @@ use Rattle.std.proofs.Math.Bool.{true, false}
 use Rattle.std.proofs.Math.Dec.{eqb}
 use borrow.Author.Tests.{eq-eqb, ne_eqb}
 use Rattle.laws.specs.If.{if_eq, ge, eq, ne, yes, no, true-false}
-use Rattle.paper.specs.declared.Reading.{Reading}
-use Rattle.paper.specs.declared.Reading.TheVariants.{Ends, Fault}
+use Rattle.paper.specs.Elements.{Reading}
+use Rattle.std.specs.Prelude.{Ok, Err}
 use Rattle.paper.specs.declared.Frame.{Frame}
 use Rattle.paper.specs.declared.Component.{Component}
 use Rattle.paper.specs.Sizes.{depths, depths_from}
@@ -64,16 +64,16 @@ module _ (s : List ℕ) (lim at t : ℕ) (f : Frame) (r : Component) (known : kn
   framed-nested n q = yes _ _ _ known (go (element s depths lim at) n)
     where
       go : (x : Reading) → nested x ≡ true → r ≡ if_nested x (pieces s t f.stop f.to f.from) (bad-nesting s t f)
-      go (Ends e) n = q
-      go (Fault e) n = absurd (true-false (sym n))
+      go (Ok e) n = q
+      go (Err e) n = absurd (true-false (sym n))
 
   pub framed-bad : nested (element s depths lim at) ≡ false → r ≡ bad-nesting s t f → r ≡ framed s lim at t f
   unfolding framed
   framed-bad bad q = yes _ _ _ known (go (element s depths lim at) bad)
     where
       go : (x : Reading) → nested x ≡ false → r ≡ if_nested x (pieces s t f.stop f.to f.from) (bad-nesting s t f)
-      go (Ends e) n = absurd (true-false n)
-      go (Fault e) b = q
+      go (Ok e) n = absurd (true-false n)
+      go (Err e) b = q
 
 -- the component, by its frame, with where it lies
 module _ (s : List ℕ) (octets : (i : ℕ) → get_or s i 0 < 256) (lim at t : ℕ) (f : Frame) (r : Component) (tag : t ≡ tag_at s lim at) (frame : f ≡ frame_at s depths lim at) where

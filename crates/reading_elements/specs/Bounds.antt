@@ -6,8 +6,8 @@ use Rattle.paper.specs.declared.Length.{Length}
 use Rattle.paper.specs.declared.Length.TheVariants.{Wrong, Given, Until}
 use Rattle.paper.specs.declared.Head.{Head}
 use Rattle.paper.specs.declared.Head.TheVariants.{Bad, Whole, Holds, Opens}
-use Rattle.paper.specs.declared.Reading.{Reading}
-use Rattle.paper.specs.declared.Reading.TheVariants.{Ends, Fault}
+use Rattle.paper.specs.Elements.{Reading}
+use Rattle.std.specs.Prelude.{Ok, Err}
 use Rattle.paper.specs.declared.Frame.{Frame}
 use Rattle.paper.specs.Elements.{tag_more, tag_end, length_at, constructor, head_by, head_at, ended, end_at, onwards, or_next, contents, by_head, element, frame_to, frame_by, frame_at}
 
@@ -28,13 +28,13 @@ HeadIn at lim (Opens b) = (at + 1 < b) × (b ≤ lim)
 
 -- an element has at least two octets; its fault lies in it: before lim, or at the position itself
 abbrev pub ReadingIn : ℕ → ℕ → Reading → Type 0
-ReadingIn at lim (Ends e) = (at + 1 < e) × (e ≤ lim)
-ReadingIn at lim (Fault f) = (at ≤ f) × (f ≤ at + (lim - at - 1))
+ReadingIn at lim (Ok e) = (at + 1 < e) × (e ≤ lim)
+ReadingIn at lim (Err f) = (at ≤ f) × (f ≤ at + (lim - at - 1))
 
 -- whether a reading ends
 abbrev pub nested : Reading → Bool
-nested (Ends e) = true
-nested (Fault f) = false
+nested (Ok e) = true
+nested (Err f) = false
 
 -- a frame's places, in order; where there is none, all are 0
 pub record FrameIn (at lim : ℕ) (f : Frame) : Type 0 where
@@ -98,16 +98,16 @@ head_in s lim at r e =
 
 -- contents: definite ones end at their limit
 abbrev pub ContentsIn : Bool → ℕ → ℕ → ℕ → Reading → Type 0
-ContentsIn o lim outer at (Ends e) = (end_at o at ≤ e) × (e ≤ lim) × (o ≡ false → e ≡ lim)
-ContentsIn o lim outer at (Fault f) = (outer ≤ f) × (f < lim)
+ContentsIn o lim outer at (Ok e) = (end_at o at ≤ e) × (e ≤ lim) × (o ≡ false → e ≡ lim)
+ContentsIn o lim outer at (Err f) = (outer ≤ f) × (f < lim)
 
 -- contents from further on
 contents-from : (o : Bool) (lim outer at e : ℕ) (r : Reading) → at ≤ e → ContentsIn o lim outer e r → ContentsIn o lim outer at r
-contents-from o lim outer at e (Fault f) h i = i
-contents-from true lim outer at e (Ends x) h i = (omega arith, i.1, i.2)
-contents-from false lim outer at e (Ends x) h i = (omega arith, i.1, i.2)
+contents-from o lim outer at e (Err f) h i = i
+contents-from true lim outer at e (Ok x) h i = (omega arith, i.1, i.2)
+contents-from false lim outer at e (Ok x) h i = (omega arith, i.1, i.2)
 
-end-in : (s : List ℕ) (o : Bool) (lim outer at : ℕ) → at ≤ lim → true ≡ ended s o lim at → ContentsIn o lim outer at (Ends (end_at o at))
+end-in : (s : List ℕ) (o : Bool) (lim outer at : ℕ) → at ≤ lim → true ≡ ended s o lim at → ContentsIn o lim outer at (Ok (end_at o at))
 unfolding ended
 end-in s true lim outer at h e = let w = (was-lt _ _ _ _ e true-false).0 in (omega arith, omega arith, λ z. absurd (true-false z))
 end-in s false lim outer at h e = let w = eqb-true at lim (sym e) in (omega arith, omega arith, λ z. w)
@@ -125,10 +125,10 @@ contents-in el s each o lim outer (suc n) at r h l e = go (contents-in el s each
     is e i = subst (ContentsIn o lim outer at) (sym e) i
 
     on : Rest → (x : Reading) → ReadingIn at lim x → (at ≡ lim → ⊥) → r ≡ onwards x (λ e. contents el s o lim outer n e) → ContentsIn o lim outer at r
-    on rest (Fault f) i b e = is e (omega arith)
-    on rest (Ends x) i b e = contents-from o lim outer at x r (omega arith) (rest x r (omega arith) (omega arith) e)
+    on rest (Err f) i b e = is e (omega arith)
+    on rest (Ok x) i b e = contents-from o lim outer at x r (omega arith) (rest x r (omega arith) (omega arith) e)
 
-    go : Rest → (t : Bool) → t ≡ ended s o lim at → r ≡ or_next t (end_at o at) (λ _. if_eq at lim (Fault outer) (onwards (el lim at) (λ e. contents el s o lim outer n e)))
+    go : Rest → (t : Bool) → t ≡ ended s o lim at → r ≡ or_next t (end_at o at) (λ _. if_eq at lim (Err outer) (onwards (el lim at) (λ e. contents el s o lim outer n e)))
         → ContentsIn o lim outer at r
     go rest true t e = is e (end-in s o lim outer at l t)
     go rest false t e = by-eq _ _ _ _ e (λ a e. is e (omega arith)) (λ a e. on rest (el lim at) (each lim at (el lim at) refl) a e)
@@ -140,9 +140,9 @@ element-in s zero lim at r e = subst (ReadingIn at lim) (sym e) (omega arith)
 element-in s (suc d) lim at r e = go (head_at s lim at) (head_in s lim at (head_at s lim at) refl) (element-in s d) e
   where
     in-lim : (o : Bool) (b c : ℕ) (r : Reading) → at + 1 < b → c ≤ lim → ContentsIn o c at b r → ReadingIn at lim r
-    in-lim o b c (Fault f) h l i = omega arith
-    in-lim true b c (Ends e) h l i = omega arith
-    in-lim false b c (Ends e) h l i = omega arith
+    in-lim o b c (Err f) h l i = omega arith
+    in-lim true b c (Ok e) h l i = omega arith
+    in-lim false b c (Ok e) h l i = omega arith
 
     go : (g : Head) → HeadIn at lim g → ((lim at : ℕ) (r : Reading) → r ≡ element s d lim at → ReadingIn at lim r)
         → r ≡ by_head g lim at (λ o e b. contents (element s d) s o e at (suc e) b) → ReadingIn at lim r
@@ -152,7 +152,7 @@ element-in s (suc d) lim at r e = go (head_at s lim at) (head_in s lim at (head_
     go (Opens b) i each e = in-lim true b lim r (omega arith) (omega arith) (contents-in (element s d) s each true lim at (suc lim) b r (omega arith) (omega arith) e)
 
 -- an indefinite one ends with 00 00 after its contents' start
-pub opens_in : (s : List ℕ) (d lim at b : ℕ) (r : Reading) → Opens b ≡ head_at s lim at → r ≡ element s d lim at → (e : ℕ) → r ≡ Ends e → b + 2 ≤ e
+pub opens_in : (s : List ℕ) (d lim at b : ℕ) (r : Reading) → Opens b ≡ head_at s lim at → r ≡ element s d lim at → (e : ℕ) → r ≡ Ok e → b + 2 ≤ e
 unfolding element
 opens_in s zero lim at b r h q e i = absurd (let z : ◌≡◌ {A = ℕ} 0 1 = cc in omega arith)
 opens_in s (suc d) lim at b r h q e i =
@@ -166,9 +166,9 @@ pub frame-in : (s : List ℕ) (d lim at : ℕ) (r : Frame) → r ≡ frame_at s 
 unfolding frame_at
 frame-in s d lim at r e = subst (FrameIn at lim) (sym e) (go (head_at s lim at) refl (head_in s lim at (head_at s lim at) refl))
   where
-    to : (b : ℕ) (x : Reading) → at + 1 < b → ((e : ℕ) → x ≡ Ends e → b + 2 ≤ e) → ReadingIn at lim x → FrameIn at lim (frame_to b x)
-    to b (Fault f) h o i = record { ordered = omega arith; inside = omega arith; ends = omega arith; past = λ z. absurd (omega arith) }
-    to b (Ends x) h o i = let w = o x refl in record { ordered = omega arith; inside = omega arith; ends = omega arith; past = λ z. h }
+    to : (b : ℕ) (x : Reading) → at + 1 < b → ((e : ℕ) → x ≡ Ok e → b + 2 ≤ e) → ReadingIn at lim x → FrameIn at lim (frame_to b x)
+    to b (Err f) h o i = record { ordered = omega arith; inside = omega arith; ends = omega arith; past = λ z. absurd (omega arith) }
+    to b (Ok x) h o i = let w = o x refl in record { ordered = omega arith; inside = omega arith; ends = omega arith; past = λ z. h }
 
     go : (g : Head) → g ≡ head_at s lim at → HeadIn at lim g → FrameIn at lim (frame_by g (λ _. element s d lim at))
     go Bad q i = record { ordered = omega arith; inside = omega arith; ends = omega arith; past = λ z. absurd (omega arith) }

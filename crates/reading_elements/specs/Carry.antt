@@ -12,8 +12,8 @@ use Rattle.paper.specs.declared.Length.{Length}
 use Rattle.paper.specs.declared.Length.TheVariants.{Wrong, Given, Until}
 use Rattle.paper.specs.declared.Head.{Head}
 use Rattle.paper.specs.declared.Head.TheVariants.{Bad, Whole, Holds, Opens}
-use Rattle.paper.specs.declared.Reading.{Reading}
-use Rattle.paper.specs.declared.Reading.TheVariants.{Ends, Fault}
+use Rattle.paper.specs.Elements.{Reading}
+use Rattle.std.specs.Prelude.{Ok, Err}
 use Rattle.paper.specs.declared.Frame.{Frame}
 use Rattle.paper.specs.Elements.{tag_more, tag_end, length_at, constructor, head_by, head_at, ended, end_at, onwards, or_next, contents, by_head, element, frame_to, frame_by, frame_at}
 use Rattle.reading_elements.specs.Bounds.{LengthIn, HeadIn, ContentsIn, more-in, tag_in, length-in, head_in, contents-in, element-in, opens_in}
@@ -163,14 +163,14 @@ module _ (s t : List ℕ) (k lim lim' at p end : ℕ) (ep : p ≡ k + at) (fits 
           (λ d e. leaf e (λ g. ge _ _ _ _ (omega arith) (ne _ _ _ _ d (ap Whole q)) ∙ there (Given b n) some el (omega arith))))
 
 -- ---- contents and elements
-ends_is : (a b : ℕ) → Ends a ≡ Ends b → a ≡ b
+ends_is : (a b : ℕ) → Ok a ≡ Ok b → a ≡ b
 ends_is a b e = cc
 
-ends-never : {P : Type 0} (a b : ℕ) → Ends a ≡ Fault b → P
+ends-never : {P : Type 0} (a b : ℕ) → Ok a ≡ Err b → P
 ends-never a b e = absurd (let z : ◌≡◌ {A = ℕ} 0 1 = cc in omega arith)
 
 -- an element's first octet is no 0
-pub first_some : (s : List ℕ) (d lim at e : ℕ) → Ends e ≡ element s d lim at → get_or s at 0 ≡ 0 → ⊥
+pub first_some : (s : List ℕ) (d lim at e : ℕ) → Ok e ≡ element s d lim at → get_or s at 0 ≡ 0 → ⊥
 unfolding element head_at tag_end
 first_some s zero lim at e q z = ends-never e at q
 first_some s (suc d) lim at e q z =
@@ -199,43 +199,43 @@ module _ (s t : List ℕ) (k lim lim' at p e : ℕ) (ep : p ≡ k + at) (fits : 
   still-on true fit h some q = not-ended t lim' p (λ z. some (sym (octet s t k at e at p same (omega arith) h ep) ∙ z))
   still-on false fit h some q = let f = fit refl in sym (ne_eqb p lim' (λ z. eqb-false at lim (sym q) (omega arith)))
 
-contents-by : (o : Bool) (lim outer at e : ℕ) → ContentsIn o lim outer at (Ends e) → at ≤ e
+contents-by : (o : Bool) (lim outer at e : ℕ) → ContentsIn o lim outer at (Ok e) → at ≤ e
 contents-by true lim outer at e i = omega arith
 contents-by false lim outer at e i = omega arith
 
 -- an element of at most d depths in s is one of at most d' in t
 abbrev pub Carries : List ℕ → List ℕ → ℕ → ℕ → ℕ → Type 0
 Carries s t k d d' =
-    (lim lim' at p e : ℕ) → Ends e ≡ element s d lim at → p ≡ k + at → k + e ≤ lim' → Same s t k at e → Ends (k + e) ≡ element t d' lim' p
+    (lim lim' at p e : ℕ) → Ok e ≡ element s d lim at → p ≡ k + at → k + e ≤ lim' → Same s t k at e → Ok (k + e) ≡ element t d' lim' p
 
 module _ (s t : List ℕ) (k d d' : ℕ) (carry : Carries s t k d d') (o : Bool) (lim lim' outer outer' e : ℕ) (fit : o ≡ false → lim' ≡ k + lim) (fits : k + e ≤ lim') where
-  pub contents-carry : (n at p n' : ℕ) → Ends e ≡ contents (element s d) s o lim outer n at → outer < at → at ≤ lim → p ≡ k + at → Same s t k at e → lim' - p < n'
-      → Ends (k + e) ≡ contents (element t d') t o lim' outer' n' p
+  pub contents-carry : (n at p n' : ℕ) → Ok e ≡ contents (element s d) s o lim outer n at → outer < at → at ≤ lim → p ≡ k + at → Same s t k at e → lim' - p < n'
+      → Ok (k + e) ≡ contents (element t d') t o lim' outer' n' p
   unfolding contents
   contents-carry zero at p n' q h l ep same enough = ends-never e outer q
   contents-carry (suc n) at p n' q h l ep same enough = go (contents-carry n) (ended s o lim at) refl q
     where
       Rest : Type 0
-      Rest = (at p n' : ℕ) → Ends e ≡ contents (element s d) s o lim outer n at → outer < at → at ≤ lim → p ≡ k + at → Same s t k at e → lim' - p < n'
-          → Ends (k + e) ≡ contents (element t d') t o lim' outer' n' p
+      Rest = (at p n' : ℕ) → Ok e ≡ contents (element s d) s o lim outer n at → outer < at → at ≤ lim → p ≡ k + at → Same s t k at e → lim' - p < n'
+          → Ok (k + e) ≡ contents (element t d') t o lim' outer' n' p
 
-      end : (o : Bool) → e ≡ end_at o at → Ends (k + e) ≡ Ends (end_at o p)
-      end true h = let z : k + e ≡ p + 2 = omega arith in ap Ends z
-      end false h = let z : k + e ≡ p = omega arith in ap Ends z
+      end : (o : Bool) → e ≡ end_at o at → Ok (k + e) ≡ Ok (end_at o p)
+      end true h = let z : k + e ≡ p + 2 = omega arith in ap Ok z
+      end false h = let z : k + e ≡ p = omega arith in ap Ok z
 
-      on : Rest → (x : Reading) → x ≡ element s d lim at → false ≡ ended s o lim at → Ends e ≡ onwards x (λ e. contents (element s d) s o lim outer n e)
-          → Ends (k + e) ≡ contents (element t d') t o lim' outer' n' p
-      on rest (Fault f) i te q = ends-never e f q
-      on rest (Ends x) i te q =
-          let w = element-in s d lim at (Ends x) i in
-          let v = contents-by o lim outer x e (contents-in (element s d) s (element-in s d) o lim outer n x (Ends e) (omega arith) (omega arith) q) in
-          next (element t d') t o lim' outer' n' p enough (Ends (k + x)) (Ends (k + e))
+      on : Rest → (x : Reading) → x ≡ element s d lim at → false ≡ ended s o lim at → Ok e ≡ onwards x (λ e. contents (element s d) s o lim outer n e)
+          → Ok (k + e) ≡ contents (element t d') t o lim' outer' n' p
+      on rest (Err f) i te q = ends-never e f q
+      on rest (Ok x) i te q =
+          let w = element-in s d lim at (Ok x) i in
+          let v = contents-by o lim outer x e (contents-in (element s d) s (element-in s d) o lim outer n x (Ok e) (omega arith) (omega arith) q) in
+          next (element t d') t o lim' outer' n' p enough (Ok (k + x)) (Ok (k + e))
           (still-on s t k lim lim' at p e ep fits same o fit (omega arith) (first_some s d lim at x i) te) (λ z. omega arith)
           (carry lim lim' at p x i ep (omega arith) (λ j a b. same j a (omega arith)))
           (rest x (k + x) (n' - 1) q (omega arith) (omega arith) refl (λ j a b. same j (omega arith) b) (omega arith))
 
-      go : Rest → (b : Bool) → b ≡ ended s o lim at → Ends e ≡ or_next b (end_at o at) (λ _. if_eq at lim (Fault outer) (onwards (element s d lim at) (λ e. contents (element s d) s o lim outer n e)))
-          → Ends (k + e) ≡ contents (element t d') t o lim' outer' n' p
+      go : Rest → (b : Bool) → b ≡ ended s o lim at → Ok e ≡ or_next b (end_at o at) (λ _. if_eq at lim (Err outer) (onwards (element s d lim at) (λ e. contents (element s d) s o lim outer n e)))
+          → Ok (k + e) ≡ contents (element t d') t o lim' outer' n' p
       go rest true te q =
           let z = ends_is e (end_at o at) q in
           end o z ∙ at-end (element t d') t o lim' outer' n' p enough o refl (still-ended s t k lim lim' at p e ep fits same o fit z te)
@@ -251,18 +251,18 @@ element-carry s t k (suc d) (suc d') m lim lim' at p e q ep fits same =
     in-t : (g : Head) → g ≡ head_at s lim at → HeadBy e g → by_head (up_head k g) lim' p (λ o e b. contents (element t d') t o e p (suc e) b) ≡ element t (suc d') lim' p
     in-t g i b = ap (λ (g : Head). by_head g lim' p (λ o e b. contents (element t d') t o e p (suc e) b)) (head-carry s t k lim lim' at p e ep fits same g i b)
 
-    go : Carries s t k d d' → (g : Head) → g ≡ head_at s lim at → HeadIn at lim g → Ends e ≡ by_head g lim at (λ o e b. contents (element s d) s o e at (suc e) b)
-        → Ends (k + e) ≡ element t (suc d') lim' p
+    go : Carries s t k d d' → (g : Head) → g ≡ head_at s lim at → HeadIn at lim g → Ok e ≡ by_head g lim at (λ o e b. contents (element s d) s o e at (suc e) b)
+        → Ok (k + e) ≡ element t (suc d') lim' p
     go carry Bad i w q = ends-never e at q
-    go carry (Whole c) i w q = let z = ends_is e c q in ap (λ (j : ℕ). Ends (k + j)) z ∙ in-t (Whole c) i (sym z)
+    go carry (Whole c) i w q = let z = ends_is e c q in ap (λ (j : ℕ). Ok (k + j)) z ∙ in-t (Whole c) i (sym z)
     go carry (Holds b c) i w q =
-        let v = contents-in (element s d) s (element-in s d) false c at (suc c) b (Ends e) (omega arith) (omega arith) q in
+        let v = contents-in (element s d) s (element-in s d) false c at (suc c) b (Ok e) (omega arith) (omega arith) q in
         let z = v.2 refl in
         contents-carry s t k d d' carry false c (k + c) at p e (λ _. refl) (omega arith) (suc c) b (k + b) (suc (k + c)) q (omega arith) (omega arith) refl
         (λ j a u. same j (omega arith) u) (omega arith)
         ∙ in-t (Holds b c) i (sym z)
     go carry (Opens b) i w q =
-        let v = contents-in (element s d) s (element-in s d) true lim at (suc lim) b (Ends e) (omega arith) (omega arith) q in
+        let v = contents-in (element s d) s (element-in s d) true lim at (suc lim) b (Ok e) (omega arith) (omega arith) q in
         contents-carry s t k d d' carry true lim lim' at p e (λ z. absurd (true-false z)) fits (suc lim) b (k + b) (suc lim') q (omega arith) (omega arith) refl
         (λ j a u. same j (omega arith) u) (omega arith)
         ∙ in-t (Opens b) i (omega arith)
@@ -280,10 +280,10 @@ frame-carry s t k d d' lim lim' at p m f q some ep fits same = go (head_at s lim
     in-t g i b = ap (λ (g : Head). frame_by g (λ _. element t d' lim' p)) (head-carry s t k lim lim' at p f.stop ep fits same g i b)
 
     to : (b : ℕ) (r : Reading) → Opens b ≡ head_at s lim at → r ≡ element s d lim at → f ≡ frame_to b r → up_frame k f ≡ frame_at t d' lim' p
-    to b (Fault x) i j q = let z = ap (λ (f : Frame). f.stop) q in absurd (omega arith)
-    to b (Ends x) i j q =
+    to b (Err x) i j q = let z = ap (λ (f : Frame). f.stop) q in absurd (omega arith)
+    to b (Ok x) i j q =
         let z : f.stop ≡ x = ap (λ (f : Frame). f.stop) q in
-        let w = opens_in s d lim at b (Ends x) i j x refl in
+        let w = opens_in s d lim at b (Ok x) i j x refl in
         let y : k + (x - 2) ≡ k + x - 2 = omega arith in
         let c = element-carry s t k d d' m lim lim' at p x j ep (omega arith) (λ i l u. same i l (omega arith)) in
         ap (up_frame k) q ∙ ap (λ (n : ℕ). record { from = k + b; to = n; stop = k + x }) y ∙ ap (frame_to (k + b)) c ∙ in-t (Opens b) i (omega arith)

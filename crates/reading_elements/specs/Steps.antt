@@ -7,8 +7,8 @@ use Rattle.laws.specs.If.{if_lt, if_eq, eq, ne, was-lt, true-false}
 use Rattle.paper.specs.declared.Length.{Length}
 use Rattle.paper.specs.declared.Head.{Head}
 use Rattle.paper.specs.declared.Head.TheVariants.{Bad}
-use Rattle.paper.specs.declared.Reading.{Reading}
-use Rattle.paper.specs.declared.Reading.TheVariants.{Ends, Fault}
+use Rattle.paper.specs.Elements.{Reading}
+use Rattle.std.specs.Prelude.{Ok, Err}
 use Rattle.paper.specs.declared.Frame.{Frame}
 use Rattle.paper.specs.Elements.{tag_more, tag_end, length_at, constructor, head_by, head_at, ended, end_at, onwards, or_next, contents, by_head, element, frame_by, frame_at}
 use Rattle.reading_elements.specs.declared.Nesting.{Nesting}
@@ -44,7 +44,7 @@ by-head s (suc d) lim at h some e =
     ap (λ (k : ℕ). by_head h lim at (λ o e b. contents (element s k) s o e at (suc e) b)) (sub-one (suc d))
     ∙ ap (λ (g : Head). by_head g lim at (λ o e b. contents (element s d) s o e at (suc e) b)) e
 
-pub no-depth : (s : List ℕ) (d lim at : ℕ) → d ≡ 0 → Fault at ≡ element s d lim at
+pub no-depth : (s : List ℕ) (d lim at : ℕ) → d ≡ 0 → Err at ≡ element s d lim at
 unfolding element
 no-depth s zero lim at z = refl
 no-depth s (suc d) lim at z = absurd (omega arith)
@@ -56,23 +56,23 @@ From el s o lim outer at p =
 
 -- contents at a position: their end, no more octets, and an element
 module _ (el : ℕ → ℕ → Reading) (s : List ℕ) (o : Bool) (lim outer n at : ℕ) (enough : lim - at < n) where
-  after : (e : Bool) → e ≡ ended s o lim at → (x : Reading) → x ≡ or_next e (end_at o at) (λ _. if_eq at lim (Fault outer) (onwards (el lim at) (λ e. contents el s o lim outer (n - 1) e)))
+  after : (e : Bool) → e ≡ ended s o lim at → (x : Reading) → x ≡ or_next e (end_at o at) (λ _. if_eq at lim (Err outer) (onwards (el lim at) (λ e. contents el s o lim outer (n - 1) e)))
       → x ≡ contents el s o lim outer n at
   unfolding contents
   after e i x q = go n enough q
     where
-      go : (n : ℕ) → lim - at < n → x ≡ or_next e (end_at o at) (λ _. if_eq at lim (Fault outer) (onwards (el lim at) (λ e. contents el s o lim outer (n - 1) e))) → x ≡ contents el s o lim outer n at
+      go : (n : ℕ) → lim - at < n → x ≡ or_next e (end_at o at) (λ _. if_eq at lim (Err outer) (onwards (el lim at) (λ e. contents el s o lim outer (n - 1) e))) → x ≡ contents el s o lim outer n at
       go zero h q = absurd (omega arith)
       go (suc n) h q =
           q
-          ∙ ap (λ (k : ℕ). or_next e (end_at o at) (λ _. if_eq at lim (Fault outer) (onwards (el lim at) (λ e. contents el s o lim outer k e)))) (sub-one (suc n))
-          ∙ ap (λ (t : Bool). or_next t (end_at o at) (λ _. if_eq at lim (Fault outer) (onwards (el lim at) (λ e. contents el s o lim outer n e)))) i
+          ∙ ap (λ (k : ℕ). or_next e (end_at o at) (λ _. if_eq at lim (Err outer) (onwards (el lim at) (λ e. contents el s o lim outer k e)))) (sub-one (suc n))
+          ∙ ap (λ (t : Bool). or_next t (end_at o at) (λ _. if_eq at lim (Err outer) (onwards (el lim at) (λ e. contents el s o lim outer n e)))) i
 
-  pub at-end : (b : Bool) → o ≡ b → true ≡ ended s o lim at → Ends (end_at b at) ≡ contents el s o lim outer n at
-  at-end b i e = ap (λ (b : Bool). Ends (end_at b at)) (sym i) ∙ after true e (Ends (end_at o at)) refl
+  pub at-end : (b : Bool) → o ≡ b → true ≡ ended s o lim at → Ok (end_at b at) ≡ contents el s o lim outer n at
+  at-end b i e = ap (λ (b : Bool). Ok (end_at b at)) (sym i) ∙ after true e (Ok (end_at o at)) refl
 
-  pub no_more : false ≡ ended s o lim at → at ≡ lim → Fault outer ≡ contents el s o lim outer n at
-  no_more e h = after false e (Fault outer) (eq _ _ _ _ h refl)
+  pub no_more : false ≡ ended s o lim at → at ≡ lim → Err outer ≡ contents el s o lim outer n at
+  no_more e h = after false e (Err outer) (eq _ _ _ _ h refl)
 
   pub next : (x r : Reading) → false ≡ ended s o lim at → (at ≡ lim → ⊥) → x ≡ el lim at → r ≡ onwards x (λ e. contents el s o lim outer (n - 1) e) → r ≡ contents el s o lim outer n at
   next x r e h i q = after false e r (ne _ _ _ _ h (q ∙ ap (λ (x : Reading). onwards x (λ e. contents el s o lim outer (n - 1) e)) i))

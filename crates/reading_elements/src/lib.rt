@@ -3,7 +3,7 @@
 
 ghost use Rattle.std.specs.Prelude.{true, false, ◌≡◌, ℕ, ◌+◌, ◌*◌, ◌-◌, ◌%◌, ◌<◌, ◌≤◌, length};
 ghost use Rattle.paper.specs.Elements.{tag_more, tag_end, length_at, head_at, ended, contents, element, frame_at};
-ghost use Rattle.paper.specs.declared.Reading.TheVariants.{Ends};
+ghost use Rattle.std.specs.Prelude.{Ok};
 ghost use Rattle.reading_elements.specs.Bounds.{Past, LengthIn, HeadIn, ReadingIn, FrameIn, nested};
 ghost use Rattle.reading_elements.specs.Short.{Short};
 
@@ -192,7 +192,7 @@ fn head_at(s: &[u8], lim: usize, at: usize) -> Head
 // Past the primitive at a position; 0 where there is none that is well formed.
 fn primitive_end(s: &[u8], left: usize, lim: usize, at: usize) -> usize
     requires { (at ≤ lim) × (lim ≤ length s.now) }
-    ensures is { 0 < result → Ends result ≡ element s.now left lim at }
+    ensures is { 0 < result → Ok result ≡ element s.now left lim at }
     ensures within { Past (at + 1) lim result }
 {
     if left == 0 {
@@ -237,11 +237,11 @@ pub fn element(s: &[u8], left: usize, lim: usize, at: usize) -> Reading
     ensures within { ReadingIn at lim result }
 {
     if left == 0 {
-        return Reading::Fault(at);
+        return Err(at);
     }
     match head_at(s, lim, at) {
-        Head::Bad => Reading::Fault(at),
-        Head::Whole(e) => Reading::Ends(e),
+        Head::Bad => Err(at),
+        Head::Whole(e) => Ok(e),
         Head::Holds(b, e) => contents(s, left - 1, false, e, at, b),
         Head::Opens(b) => contents(s, left - 1, true, lim, at, b),
     }
@@ -257,22 +257,22 @@ fn contents(s: &[u8], left: usize, indefinite: bool, lim: usize, outer: usize, a
     loop {
         if is_end(s, indefinite, lim, p) {
             if indefinite {
-                return Reading::Ends(p + 2);
+                return Ok(p + 2);
             }
-            return Reading::Ends(p);
+            return Ok(p);
         }
         if p == lim {
-            return Reading::Fault(outer);
+            return Err(outer);
         }
         let q = primitive_end(s, left, lim, p);
         if q != 0 {
             p = q;
         } else {
             match element(s, left, lim, p) {
-                Reading::Fault(f) => {
-                    return Reading::Fault(f);
+                Err(f) => {
+                    return Err(f);
                 }
-                Reading::Ends(e) => {
+                Ok(e) => {
                     p = e;
                 }
             }
@@ -299,12 +299,12 @@ pub fn frame_at(s: &[u8], left: usize, lim: usize, at: usize) -> Frame
             stop: e,
         },
         Head::Opens(b) => match element(s, left, lim, at) {
-            Reading::Ends(x) => Frame {
+            Ok(x) => Frame {
                 from: b,
                 to: x - 2,
                 stop: x,
             },
-            Reading::Fault(_f) => NO_FRAME,
+            Err(_f) => NO_FRAME,
         },
     }
 }
@@ -338,16 +338,16 @@ pub fn nesting_at(s: &[u8], left: usize, lim: usize, at: usize) -> Nesting
         Head::Bad => unsound(NO_FRAME),
         Head::Whole(e) => sound(e, e, e),
         Head::Holds(b, e) => match contents(s, left - 1, false, e, at, b) {
-            Reading::Ends(_x) => sound(b, e, e),
-            Reading::Fault(_f) => unsound(Frame {
+            Ok(_x) => sound(b, e, e),
+            Err(_f) => unsound(Frame {
                 from: b,
                 to: e,
                 stop: e,
             }),
         },
         Head::Opens(b) => match contents(s, left - 1, true, lim, at, b) {
-            Reading::Ends(x) => sound(b, x - 2, x),
-            Reading::Fault(_f) => unsound(NO_FRAME),
+            Ok(x) => sound(b, x - 2, x),
+            Err(_f) => unsound(NO_FRAME),
         },
     }
 }

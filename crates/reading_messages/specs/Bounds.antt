@@ -6,8 +6,8 @@ use Rattle.std.proofs.Math.ListN.{length}
 use Rattle.laws.specs.If.{by-lt, by-eq, by-b}
 use Rattle.paper.specs.declared.Length.{Length}
 use Rattle.paper.specs.declared.Length.TheVariants.{Wrong, Given, Until}
-use Rattle.paper.specs.declared.Reading.{Reading}
-use Rattle.paper.specs.declared.Reading.TheVariants.{Ends, Fault}
+use Rattle.paper.specs.Elements.{Reading}
+use Rattle.std.specs.Prelude.{Ok, Err}
 use Rattle.paper.specs.declared.Frame.{Frame}
 use Rattle.paper.specs.declared.Run.{Run}
 use Rattle.paper.specs.declared.Message.{Message}
@@ -150,8 +150,8 @@ module _ (s : List ℕ) (d : Derived) (w : DerivedIn (length s) d) (begins : d.t
       (λ a q. by-eq _ _ _ _ q (λ b q. abort-in o p r q) (λ b q. components-in o no_run p r (omega arith) q))
     where
       after : (x : Reading) → ReadingIn p (length s) x → r ≡ after_portion s o d p x → MessageIn (length s) r
-      after (Fault f) i q = bad-in r q
-      after (Ends x) i q =
+      after (Err f) i q = bad-in r q
+      after (Ok x) i q =
           by-eq _ _ _ _ q (λ b q. closing-in o x (record { start = p; length = x - p }) 0 0 no_problem r (omega arith) (omega arith) (omega arith) (omega arith) q)
           (λ b q. components-in o (record { start = p; length = x - p }) x r (omega arith) q)
 

@@ -6,7 +6,7 @@ use Rattle.std.proofs.Math.Bool.{true, false}
 use Rattle.laws.specs.If.{if_eq, if_b, eq, ne}
 use Rattle.paper.specs.declared.Length.{Length}
 use Rattle.paper.specs.declared.Length.TheVariants.{Wrong, Given, Until}
-use Rattle.paper.specs.declared.Reading.{Reading}
+use Rattle.paper.specs.Elements.{Reading}
 use Rattle.paper.specs.declared.Run.{Run}
 use Rattle.paper.specs.declared.Message.{Message}
 use Rattle.paper.specs.Elements.{constructor, length_at, element}

@@ -4,7 +4,7 @@
 ghost use Rattle.std.specs.Prelude.{◌≡◌, ◌+◌, ◌-◌, ◌<◌, ◌≤◌, length};
 ghost use Rattle.paper.specs.Messages.{id_at, origin_of, past, destination_of, derived, fault_of, sound_of, closes, closing, octet_at, components_by, components_part};
 ghost use Rattle.paper.specs.Messages.{abort_part, after_portion, portion_part, in_order, known_type, by_length, message_of};
-ghost use Rattle.paper.specs.declared.Reading.TheVariants.{Ends};
+ghost use Rattle.std.specs.Prelude.{Ok};
 ghost use Rattle.paper.specs.declared.Length.TheVariants.{Given, Until};
 ghost use Rattle.reading_messages.specs.Bounds.{RunIn, MessageIn};
 ghost use Rattle.reading_messages.specs.Steps.{seen};
@@ -256,7 +256,7 @@ fn abort_part(s: &[u8], indefinite: bool, d: Seen, p: usize) -> Message
 // After a dialogue portion from p to x: nothing more in an Abort.
 fn after_portion(s: &[u8], indefinite: bool, d: Seen, p: usize, x: usize) -> Message
     requires { p ≤ x }
-    ensures { result ≡ after_portion s.now indefinite (seen d) p (Ends x) }
+    ensures { result ≡ after_portion s.now indefinite (seen d) p (Ok x) }
 {
     let portion = Run {
         start: p,
@@ -275,10 +275,10 @@ fn portion_part(s: &[u8], indefinite: bool, d: Seen, p: usize) -> Message
 {
     if octet_at(s, p) == 0x6B {
         match reading_elements::element(s, DEPTHS, s.len(), p) {
-            Reading::Fault(_f) => {
+            Err(_f) => {
                 return fault_of(d, 2);
             }
-            Reading::Ends(x) => {
+            Ok(x) => {
                 return after_portion(s, indefinite, d, p, x);
             }
         }

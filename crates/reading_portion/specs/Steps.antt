@@ -3,8 +3,8 @@ use Rattle.std.specs.Prelude.{◌≡◌, Bool, true, false, List, [], ◌∷◌,
 use Rattle.std.proofs.Math.Path.{refl, sym, ap}
 use Rattle.std.proofs.Common.{◌∙◌, arith, add-one, drop_of_length-le, drop-cons, eq-eqb, ne_eqb}
 use Rattle.laws.specs.If.{if_lt, if_eq, if_b, lt, ge, eq, ne, yes, no}
-use Rattle.paper.specs.declared.Reading.{Reading}
-use Rattle.paper.specs.declared.Reading.TheVariants.{Ends, Fault}
+use Rattle.paper.specs.Elements.{Reading}
+use Rattle.std.specs.Prelude.{Ok, Err}
 use Rattle.paper.specs.declared.Frame.{Frame}
 use Rattle.paper.specs.declared.Run.{Run}
 use Rattle.paper.specs.declared.Pdu.{Pdu}
@@ -161,14 +161,14 @@ module _ (l : List ℕ) (t : ℕ) (tag : t ≡ tag_at l (length l) 0) where
         eq _ _ _ _ (sym (first-tag l) ∙ sym tag ∙ is) (p ∙ ap (λ (x : Reading). if_b (ends_at (length l) x) (read_by forms l) Absent) q) in
         (e, portion-in l r e)
 
-    pub fault-by : (f : ℕ) → Fault f ≡ element l depths (length l) 0 → (Absent ≡ portion_of l) × PortionIn (length l) Absent
-    fault-by f q = portion-by (Fault f) Absent q (no _ _ _ refl refl)
+    pub fault-by : (f : ℕ) → Err f ≡ element l depths (length l) 0 → (Absent ≡ portion_of l) × PortionIn (length l) Absent
+    fault-by f q = portion-by (Err f) Absent q (no _ _ _ refl refl)
 
-    pub short-by : (e : ℕ) → Ends e ≡ element l depths (length l) 0 → (e ≡ length l → ⊥) → (Absent ≡ portion_of l) × PortionIn (length l) Absent
-    short-by e q h = portion-by (Ends e) Absent q (no _ _ _ (ne_eqb e (length l) h) refl)
+    pub short-by : (e : ℕ) → Ok e ≡ element l depths (length l) 0 → (e ≡ length l → ⊥) → (Absent ≡ portion_of l) × PortionIn (length l) Absent
+    short-by e q h = portion-by (Ok e) Absent q (no _ _ _ (ne_eqb e (length l) h) refl)
 
-    pub whole_by : (e : ℕ) (r : Portion) → Ends e ≡ element l depths (length l) 0 → e ≡ length l → r ≡ read_by forms l → (r ≡ portion_of l) × PortionIn (length l) r
-    whole_by e r q h p = portion-by (Ends e) r q (yes _ _ _ (eq-eqb e (length l) h) p)
+    pub whole_by : (e : ℕ) (r : Portion) → Ok e ≡ element l depths (length l) 0 → e ≡ length l → r ≡ read_by forms l → (r ≡ portion_of l) × PortionIn (length l) r
+    whole_by e r q h p = portion-by (Ok e) r q (yes _ _ _ (eq-eqb e (length l) h) p)
 
 -- IN A MESSAGE: each kind, its runs counted from k
 module _ (k : ℕ) (p : Portion) (n i a b : Run) (first : a ≡ run_from k n) (second : b ≡ run_from k i) where

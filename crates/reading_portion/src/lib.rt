@@ -394,8 +394,8 @@ pub fn portion(l: &[u8]) -> Portion
         return Portion::Absent;
     }
     match reading_elements::element(l, DEPTHS, n, 0) {
-        Reading::Fault(_f) => Portion::Absent,
-        Reading::Ends(e) => {
+        Err(_f) => Portion::Absent,
+        Ok(e) => {
             if e != n {
                 return Portion::Absent;
             }

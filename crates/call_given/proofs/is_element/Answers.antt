@@ -2,10 +2,10 @@ use Rattle.call_given.specs.Pieces.{element-is}
 use mathlib.Core.Path.{sym, ◌∙◌}
 use Rattle.call_given.proofs.is_element.Goals as goal
 
-pub returns-in-Ends : goal.returns-in-Ends
-returns-in-Ends c =
-    element-is c.args.l.now c.args.left _ (sym c.in-Ends.is ∙ c.element.ensures.is)
+pub returns-in-Ok : goal.returns-in-Ok
+returns-in-Ok c =
+    element-is c.args.l.now c.args.left _ (sym c.in-Ok.is ∙ c.element.ensures.is)
 
-pub returns-in-Fault : goal.returns-in-Fault
-returns-in-Fault c =
-    element-is c.args.l.now c.args.left _ (sym c.in-Fault.is ∙ c.element.ensures.is)
+pub returns-in-Err : goal.returns-in-Err
+returns-in-Err c =
+    element-is c.args.l.now c.args.left _ (sym c.in-Err.is ∙ c.element.ensures.is)

@@ -33,21 +33,21 @@ contents-loop-left-preserved-then-q-ne0 t c =
           next _ _ _ _ _ n _ h _ x (sym c.if-is_end.false ∙ c.is_end.ensures) c.if-p-lim.false (c.primitive_end-q.ensures.is (omega arith)) (g (n - 1) (omega arith))),
     )
 
-pub contents-returns-in-Fault : goal.contents-returns-in-Fault
-contents-returns-in-Fault t c =
+pub contents-returns-in-Err : goal.contents-returns-in-Err
+contents-returns-in-Err t c =
     c.loop-left.invariant.2 _ (λ n h.
-    next _ _ _ _ _ n _ h _ _ (sym c.if-is_end.false ∙ c.is_end.ensures) c.if-p-lim.false (sym c.in-Fault.is ∙ c.element.ensures.is) refl)
+    next _ _ _ _ _ n _ h _ _ (sym c.if-is_end.false ∙ c.is_end.ensures) c.if-p-lim.false (sym c.in-Err.is ∙ c.element.ensures.is) refl)
 
 pub contents-loop-left-smaller : goal.contents-loop-left-smaller
-contents-loop-left-smaller t c = omega (arith, subst (ReadingIn _ _) c.in-Ends.is c.element.ensures.within)
+contents-loop-left-smaller t c = omega (arith, subst (ReadingIn _ _) c.in-Ok.is c.element.ensures.within)
 
 pub contents-loop-left-preserved : goal.contents-loop-left-preserved
 contents-loop-left-preserved t c =
-    let w = subst (ReadingIn _ _) c.in-Ends.is c.element.ensures.within in (
+    let w = subst (ReadingIn _ _) c.in-Ok.is c.element.ensures.within in (
       omega arith,
       omega arith,
       λ x g. c.loop-left.invariant.2 x (λ n h.
-          next _ _ _ _ _ n _ h _ x (sym c.if-is_end.false ∙ c.is_end.ensures) c.if-p-lim.false (sym c.in-Ends.is ∙ c.element.ensures.is) (g (n - 1) (omega arith))),
+          next _ _ _ _ _ n _ h _ x (sym c.if-is_end.false ∙ c.is_end.ensures) c.if-p-lim.false (sym c.in-Ok.is ∙ c.element.ensures.is) (g (n - 1) (omega arith))),
     )
 
 pub element-returns-then-left-eq0 : goal.element-returns-then-left-eq0

@@ -7,7 +7,7 @@ use Rattle.reading_elements.proofs.frame_at.Goals as goal
 
 pub overflow_sub-result : goal.overflow_sub-result
 overflow_sub-result c =
-    omega (arith, subst (ReadingIn _ _) c.in-Ends.is c.element.ensures.within)
+    omega (arith, subst (ReadingIn _ _) c.in-Ok.is c.element.ensures.within)
 
 pub returns-in-Bad : goal.returns-in-Bad
 returns-in-Bad c =
@@ -24,12 +24,12 @@ returns-in-Holds c =
     let both = frame-told _ _ _ _ _ (sym c.in-Holds.is ∙ c.head_at.ensures.is) refl in
     record { is = both.0; within = both.1 }
 
-pub returns-in-Ends : goal.returns-in-Ends
-returns-in-Ends c =
-    let both = frame-told _ _ _ _ _ (sym c.in-Opens.is ∙ c.head_at.ensures.is) (ap (frame_to _) (sym c.in-Ends.is ∙ c.element.ensures.is)) in
+pub returns-in-Ok : goal.returns-in-Ok
+returns-in-Ok c =
+    let both = frame-told _ _ _ _ _ (sym c.in-Opens.is ∙ c.head_at.ensures.is) (ap (frame_to _) (sym c.in-Ok.is ∙ c.element.ensures.is)) in
     record { is = both.0; within = both.1 }
 
-pub returns-in-Fault : goal.returns-in-Fault
-returns-in-Fault c =
-    let both = frame-told _ _ _ _ _ (sym c.in-Opens.is ∙ c.head_at.ensures.is) (ap (frame_to _) (sym c.in-Fault.is ∙ c.element.ensures.is)) in
+pub returns-in-Err : goal.returns-in-Err
+returns-in-Err c =
+    let both = frame-told _ _ _ _ _ (sym c.in-Opens.is ∙ c.head_at.ensures.is) (ap (frame_to _) (sym c.in-Err.is ∙ c.element.ensures.is)) in
     record { is = both.0; within = both.1 }

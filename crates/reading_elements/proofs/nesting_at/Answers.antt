@@ -16,7 +16,7 @@ pub overflow_sub-x : goal.overflow_sub-x
 overflow_sub-x c =
     omega (
       arith,
-      element-in _ _ _ _ _ (sym c.in-Ends-contents.is ∙ c.contents-in-Opens.ensures _ (omega arith)
+      element-in _ _ _ _ _ (sym c.in-Ok-contents.is ∙ c.contents-in-Opens.ensures _ (omega arith)
           ∙ by-head _ _ _ _ _ (λ z. omega arith) (sym c.in-Opens.is ∙ c.head_at.ensures.is)),
     )
 
@@ -32,26 +32,26 @@ returns-in-Whole c =
     let both = nesting-told _ c.args.left _ _ _ _ h (by-head _ c.args.left _ _ _ (λ z. omega arith) h) c.sound.ensures in
     record { is = both.0; within = both.1.0; sound = both.1.1 }
 
-pub returns-in-Ends : goal.returns-in-Ends
-returns-in-Ends c =
+pub returns-in-Ok : goal.returns-in-Ok
+returns-in-Ok c =
     let h = sym c.in-Holds.is ∙ c.head_at.ensures.is in
-    let both = nesting-told _ _ _ _ _ _ h (sym c.in-Ends.is ∙ c.contents.ensures _ (omega arith) ∙ by-head _ _ _ _ _ (λ z. omega arith) h) c.sound-in-Ends.ensures in
+    let both = nesting-told _ _ _ _ _ _ h (sym c.in-Ok.is ∙ c.contents.ensures _ (omega arith) ∙ by-head _ _ _ _ _ (λ z. omega arith) h) c.sound-in-Ok.ensures in
     record { is = both.0; within = both.1.0; sound = both.1.1 }
 
-pub returns-in-Fault : goal.returns-in-Fault
-returns-in-Fault c =
+pub returns-in-Err : goal.returns-in-Err
+returns-in-Err c =
     let h = sym c.in-Holds.is ∙ c.head_at.ensures.is in
-    let both = nesting-told _ _ _ _ _ _ h (sym c.in-Fault.is ∙ c.contents.ensures _ (omega arith) ∙ by-head _ _ _ _ _ (λ z. omega arith) h) c.unsound-in-Fault.ensures in
+    let both = nesting-told _ _ _ _ _ _ h (sym c.in-Err.is ∙ c.contents.ensures _ (omega arith) ∙ by-head _ _ _ _ _ (λ z. omega arith) h) c.unsound-in-Err.ensures in
     record { is = both.0; within = both.1.0; sound = both.1.1 }
 
-pub returns-in-Ends-contents : goal.returns-in-Ends-contents
-returns-in-Ends-contents c =
+pub returns-in-Ok-contents : goal.returns-in-Ok-contents
+returns-in-Ok-contents c =
     let h = sym c.in-Opens.is ∙ c.head_at.ensures.is in
-    let both = nesting-told _ _ _ _ _ _ h (sym c.in-Ends-contents.is ∙ c.contents-in-Opens.ensures _ (omega arith) ∙ by-head _ _ _ _ _ (λ z. omega arith) h) c.sound-in-Ends-contents.ensures in
+    let both = nesting-told _ _ _ _ _ _ h (sym c.in-Ok-contents.is ∙ c.contents-in-Opens.ensures _ (omega arith) ∙ by-head _ _ _ _ _ (λ z. omega arith) h) c.sound-in-Ok-contents.ensures in
     record { is = both.0; within = both.1.0; sound = both.1.1 }
 
-pub returns-in-Fault-contents : goal.returns-in-Fault-contents
-returns-in-Fault-contents c =
+pub returns-in-Err-contents : goal.returns-in-Err-contents
+returns-in-Err-contents c =
     let h = sym c.in-Opens.is ∙ c.head_at.ensures.is in
-    let both = nesting-told _ _ _ _ _ _ h (sym c.in-Fault-contents.is ∙ c.contents-in-Opens.ensures _ (omega arith) ∙ by-head _ _ _ _ _ (λ z. omega arith) h) c.unsound-in-Fault-contents.ensures in
+    let both = nesting-told _ _ _ _ _ _ h (sym c.in-Err-contents.is ∙ c.contents-in-Opens.ensures _ (omega arith) ∙ by-head _ _ _ _ _ (λ z. omega arith) h) c.unsound-in-Err-contents.ensures in
     record { is = both.0; within = both.1.0; sound = both.1.1 }

@@ -6,17 +6,17 @@ use Rattle.reading_elements.specs.Bounds.{ReadingIn}
 use Rattle.reading_messages.specs.Steps.{portion-by}
 use Rattle.reading_messages.proofs.portion_part.Goals as goal
 
-pub returns-in-Fault : goal.returns-in-Fault
-returns-in-Fault c =
-    portion-by _ _ _ _ _ _ (omega arith) (sym c.in-Fault.is ∙ c.element.ensures.is) c.fault_of.ensures
+pub returns-in-Err : goal.returns-in-Err
+returns-in-Err c =
+    portion-by _ _ _ _ _ _ (omega arith) (sym c.in-Err.is ∙ c.element.ensures.is) c.fault_of.ensures
 
 pub after_portion-requires : goal.after_portion-requires
 after_portion-requires c =
-    omega (arith, subst (ReadingIn _ _) c.in-Ends.is c.element.ensures.within)
+    omega (arith, subst (ReadingIn _ _) c.in-Ok.is c.element.ensures.within)
 
-pub returns-in-Ends : goal.returns-in-Ends
-returns-in-Ends c =
-    portion-by _ _ _ _ _ _ (omega arith) (sym c.in-Ends.is ∙ c.element.ensures.is) c.after_portion.ensures
+pub returns-in-Ok : goal.returns-in-Ok
+returns-in-Ok c =
+    portion-by _ _ _ _ _ _ (omega arith) (sym c.in-Ok.is ∙ c.element.ensures.is) c.after_portion.ensures
 
 pub returns-then-d-eq-ABORT_TAG : goal.returns-then-d-eq-ABORT_TAG
 unfolding portion_part

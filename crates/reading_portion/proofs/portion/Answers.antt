@@ -9,15 +9,15 @@ returns-then-tag_at-ne107 c =
 
 pub returns-then-e-n : goal.returns-then-e-n
 returns-then-e-n c =
-    let both = short-by _ _ c.tag_at.ensures (omega arith) _ (sym c.in-Ends.is ∙ c.element.ensures.is) (λ h. omega arith) in
+    let both = short-by _ _ c.tag_at.ensures (omega arith) _ (sym c.in-Ok.is ∙ c.element.ensures.is) (λ h. omega arith) in
     record { is = both.0; within = both.1 }
 
-pub returns-in-Fault : goal.returns-in-Fault
-returns-in-Fault c =
-    let both = fault-by _ _ c.tag_at.ensures (omega arith) _ (sym c.in-Fault.is ∙ c.element.ensures.is) in
+pub returns-in-Err : goal.returns-in-Err
+returns-in-Err c =
+    let both = fault-by _ _ c.tag_at.ensures (omega arith) _ (sym c.in-Err.is ∙ c.element.ensures.is) in
     record { is = both.0; within = both.1 }
 
 pub returns-else-e-n : goal.returns-else-e-n
 returns-else-e-n c =
-    let both = whole_by _ _ c.tag_at.ensures (omega arith) _ _ (sym c.in-Ends.is ∙ c.element.ensures.is) (omega arith) c.by_form.ensures in
+    let both = whole_by _ _ c.tag_at.ensures (omega arith) _ _ (sym c.in-Ok.is ∙ c.element.ensures.is) (omega arith) c.by_form.ensures in
     record { is = both.0; within = both.1 }
