@@ -1,54 +1,20 @@
 // A dialogue's eight invocations: looked up, changed, transmitted (01, "Invocation states").
 #![tactic(auto)]
 
-ghost use Rattle.std.specs.Prelude.{true, ◌≡◌, ℕ, ◌+◌, ◌<◌, ◌≤◌, [], map, length, get_or};
+ghost use Rattle.std.specs.Prelude.{true, ◌≡◌, ℕ, ◌+◌, ◌<◌, ◌≤◌, [], map, length, get_or, unwrap_or};
+ghost use Rattle.std.specs.Option.{IfSome};
 ghost use Rattle.paper.specs.Sizes.{most_invocations};
 ghost use Rattle.paper.specs.Invocations.{no_invocation, is_open, is_idle, slot_of, idle_slot, invocation_of, with_invocation, to_idle, all_idle, transmitted, rejecting_ids, all_transmitted, rejecting, may_reject};
-ghost use Rattle.laws.specs.If.{if_eq};
 
 use paper::{Control, IDLE, Invocation, MOST_INVOCATIONS, PENDING, REJECTING, SENT, WAIT};
 
-fn is_open(id: u32, v: Invocation) -> bool
-    ensures { result ≡ is_open id v }
-{
-    if v.state == IDLE {
-        return false;
-    }
-    (v.id as u32) == id
-}
-
-// Whether none is in use: then there is no ID to look for.
-fn all_idle(l: [Invocation; 8]) -> bool
-    ensures { result ≡ true → (id : ℕ) → slot_of l id ≡ 8 }
-{
-    let mut i: usize = 0;
-    while i < MOST_INVOCATIONS {
-        if is_idle(l[i]) {
-            i += 1;
-        } else {
-            return false;
-        }
-    }
-    true
-}
-
-// The slot of our invocation of that ID, in any state but Idle; else 8.
-pub fn slot_of(l: [Invocation; 8], id: u32) -> usize
-    ensures is { result ≡ slot_of l id }
-    ensures within { (result ≤ 8) × (length l ≡ 8) }
-{
-    if all_idle(l) {
-        return 8;
-    }
-    let mut i: usize = 0;
-    while i < MOST_INVOCATIONS {
-        if is_open(id, l[i]) {
-            return i;
-        }
-        i += 1;
-    }
-    8
-}
+// One not in use.
+pub const NO_INVOCATION: Invocation = Invocation {
+    id: 0,
+    class: 0,
+    state: IDLE,
+    shown: 0,
+};
 
 fn is_idle(v: Invocation) -> bool
     ensures { result ≡ is_idle v }
@@ -56,79 +22,71 @@ fn is_idle(v: Invocation) -> bool
     v.state == IDLE
 }
 
-// The first slot that is Idle; 8 where none is.
-pub fn idle_slot(l: [Invocation; 8]) -> usize
-    ensures is { result ≡ idle_slot l }
-    ensures within { result ≤ 8 }
+// In use, with that ID.
+fn is_open(id: u32, v: Invocation) -> bool
+    ensures { result ≡ is_open id v }
 {
-    let mut i: usize = 0;
-    while i < MOST_INVOCATIONS {
-        if is_idle(l[i]) {
-            return i;
-        }
-        i += 1;
-    }
-    8
+    v.state != IDLE && u32::from(v.id) == id
 }
 
-pub fn no_invocation() -> Invocation
-    ensures { result ≡ no_invocation }
+// Whether none is in use: then there is no ID to look for.
+fn all_idle(l: [Invocation; MOST_INVOCATIONS]) -> bool
+    ensures { result ≡ true → (id : ℕ) → slot_of l id ≡ 8 }
 {
-    Invocation {
-        id: 0,
-        class: 0,
-        state: IDLE,
-        shown: 0,
-    }
+    l.iter().all(|v| is_idle(*v))
 }
 
-// The invocation in a slot; one in Idle past the last.
-pub fn invocation_at(l: [Invocation; 8], i: usize) -> Invocation
-    requires { i ≤ 8 }
-    ensures { result ≡ get_or l i no_invocation }
+// The slot of our invocation of that ID, in any state but Idle.
+pub fn slot_of(l: [Invocation; MOST_INVOCATIONS], id: u32) -> Option<usize>
+    ensures is { unwrap_or result 8 ≡ slot_of l id }
+    ensures within { IfSome result (λ i. i < 8) }
+    ensures eight { length l ≡ 8 }
 {
-    if i < MOST_INVOCATIONS {
-        return l[i];
+    if all_idle(l) {
+        return None;
     }
-    no_invocation()
+    l.iter().position(|v| is_open(id, *v))
 }
 
-// The state of the invocation in a slot: one that isn't Idle is there.
-pub fn state_at(l: [Invocation; 8], i: usize) -> u8
-    requires { i ≤ 8 }
-    ensures is { result ≡ (get_or l i no_invocation).state }
-    ensures there { 0 < result → i < most_invocations }
+// The first slot that is Idle.
+pub fn idle_slot(l: [Invocation; MOST_INVOCATIONS]) -> Option<usize>
+    ensures is { unwrap_or result 8 ≡ idle_slot l }
+    ensures within { IfSome result (λ i. i < 8) }
 {
-    if i < MOST_INVOCATIONS {
-        let v = l[i];
-        return v.state;
-    }
-    IDLE
+    l.iter().position(|v| is_idle(*v))
 }
 
-// The state of our invocation of an ID.
-pub fn state_of(l: [Invocation; 8], id: u32) -> u8
-    ensures { result ≡ (invocation_of l id).state }
+// The invocation in a slot; one in Idle where there is no slot.
+pub fn invocation_at(l: [Invocation; MOST_INVOCATIONS], slot: Option<usize>) -> Invocation
+    requires { IfSome slot (λ i. i < 8) }
+    ensures { result ≡ get_or l (unwrap_or slot 8) no_invocation }
 {
-    let i = slot_of(l, id);
-    state_at(l, i)
+    match slot {
+        Some(i) => l[i],
+        None => NO_INVOCATION,
+    }
 }
 
 // Our invocation of an ID; in Idle where it is not in use.
-pub fn invocation_of(l: [Invocation; 8], id: u32) -> Invocation
+pub fn invocation_of(l: [Invocation; MOST_INVOCATIONS], id: u32) -> Invocation
     ensures { result ≡ invocation_of l id }
 {
-    let i = slot_of(l, id);
-    invocation_at(l, i)
+    invocation_at(l, slot_of(l, id))
 }
 
-pub fn put_invocation(c: Control, i: usize, v: Invocation) -> Control
+// The state of our invocation of an ID.
+pub fn state_of(l: [Invocation; MOST_INVOCATIONS], id: u32) -> u8
+    ensures { result ≡ (invocation_of l id).state }
+{
+    invocation_of(l, id).state
+}
+
+pub fn put_invocation(mut c: Control, i: usize, v: Invocation) -> Control
     requires { i < most_invocations }
     ensures { result ≡ with_invocation c i v }
 {
-    let mut d = c;
-    d.invocations[i] = v;
-    d
+    c.invocations[i] = v;
+    c
 }
 
 // EVERY WAY TO IDLE: the invocation of an ID, in slot i.
@@ -136,39 +94,24 @@ pub fn to_idle(c: Control, id: u32, i: usize) -> Control
     requires { (i < most_invocations) × (i ≡ slot_of c.invocations id) }
     ensures { result ≡ to_idle c id }
 {
-    let v = no_invocation();
-    put_invocation(c, i, v)
+    put_invocation(c, i, NO_INVOCATION)
 }
 
 // The same, its slot looked up.
 pub fn release(c: Control, id: u32) -> Control
     ensures { result ≡ to_idle c id }
 {
-    let l = c.invocations;
-    let i = slot_of(l, id);
-    if i < MOST_INVOCATIONS {
-        return to_idle(c, id, i);
+    match slot_of(c.invocations, id) {
+        Some(i) => to_idle(c, id, i),
+        None => c,
     }
-    c
 }
 
 // Whether the user may reject with a problem of that kind.
 pub fn may_reject(kind: u32, v: Invocation) -> bool
     ensures { result ≡ may_reject kind v }
 {
-    if kind == 1 {
-        return true;
-    }
-    if v.state == WAIT {
-        return true;
-    }
-    if kind == 2 {
-        if v.state == SENT {
-            return v.shown == 1;
-        }
-        return false;
-    }
-    false
+    kind == 1 || v.state == WAIT || kind == 2 && v.state == SENT && v.shown == 1
 }
 
 // Pending to Sent.
@@ -176,54 +119,35 @@ fn transmit(v: Invocation) -> Invocation
     ensures { result ≡ transmitted v }
 {
     if v.state == PENDING {
-        let mut w = v;
-        w.state = SENT;
-        return w;
+        Invocation { state: SENT, ..v }
+    } else {
+        v
     }
-    v
 }
 
-fn transmit_all(l: [Invocation; 8]) -> [Invocation; 8]
+fn transmit_all(l: [Invocation; MOST_INVOCATIONS]) -> [Invocation; MOST_INVOCATIONS]
     ensures { result ≡ map transmitted l }
 {
-    let mut m = l;
-    let mut i: usize = 0;
-    while i < MOST_INVOCATIONS {
-        m[i] = transmit(l[i]);
-        i += 1;
-    }
-    m
+    l.map(|v| transmit(v))
 }
 
 // Whether none is Rejecting, as in most sendings: then there is none to settle.
-fn none_rejecting(l: [Invocation; 8]) -> bool
+fn none_rejecting(l: [Invocation; MOST_INVOCATIONS]) -> bool
     ensures { result ≡ true → rejecting_ids l ≡ [] }
 {
-    let mut i: usize = 0;
-    while i < MOST_INVOCATIONS {
-        let w = l[i];
-        if w.state == REJECTING {
-            return false;
-        }
-        i += 1;
-    }
-    true
+    l.iter().all(|v| v.state != REJECTING)
 }
 
 // Each that was Rejecting to Idle.
-fn settle_all(c: Control, l: [Invocation; 8]) -> Control
+fn settle_all(mut c: Control, l: [Invocation; MOST_INVOCATIONS]) -> Control
     ensures { result ≡ all_idle c (rejecting_ids l) }
 {
-    let mut d = c;
-    let mut i: usize = 0;
-    while i < MOST_INVOCATIONS {
-        let v = l[i];
+    for v in &l {
         if v.state == REJECTING {
-            d = release(d, laws::number(v.id));
+            c = release(c, u32::from(v.id));
         }
-        i += 1;
     }
-    d
+    c
 }
 
 // What a sending does: Pending ones to Sent, then each that was Rejecting to Idle.
@@ -231,9 +155,10 @@ pub fn sent_out(c: Control) -> Control
     ensures { result ≡ all_transmitted c }
 {
     let l = c.invocations;
-    let m = transmit_all(l);
-    let mut d = c;
-    d.invocations = m;
+    let d = Control {
+        invocations: transmit_all(l),
+        ..c
+    };
     if none_rejecting(l) {
         return d;
     }

@@ -3,5 +3,4 @@ use Rattle.dialogue_invocations.proofs.invocation_of.Goals as goal
 
 pub returns : goal.returns
 unfolding invocation_of
-returns c =
-    cc
+returns c = cc

@@ -3,5 +3,4 @@ use Rattle.dialogue_invocations.proofs.to_idle.Goals as goal
 
 pub returns : goal.returns
 unfolding to_idle
-returns c =
-    cc
+returns c = cc
