@@ -12,19 +12,26 @@ pub enum Party {
     User,
 }
 
-// The nineteen codes by kind: general 0 to 2, invoke 0 to 7, result 0 to 2, error 0 to 4. Another nobody sends.
+const LAYER: Option<Party> = Some(Party::SubLayer);
+
+const USER: Option<Party> = Some(Party::User);
+
+const NOBODY: Option<Party> = None;
+
+// The nineteen codes by kind: general 0 to 2, invoke 0 to 7, result 0 to 2, error 0 to 4.
+const SENDERS: [[Option<Party>; 8]; 4] = [
+    [LAYER, LAYER, LAYER, NOBODY, NOBODY, NOBODY, NOBODY, NOBODY],
+    [USER, USER, USER, USER, USER, LAYER, USER, USER],
+    [LAYER, LAYER, USER, NOBODY, NOBODY, NOBODY, NOBODY, NOBODY],
+    [LAYER, LAYER, USER, USER, USER, NOBODY, NOBODY, NOBODY],
+];
+
 #[tactic(auto, unfolding(paper::specs::Problems::sender_of, laws::specs::If::if_lt, laws::specs::If::if_eq))]
 pub fn sender(kind: u32, code: u32) -> Option<Party>
     ensures { party_number result ≡ sender_of kind code }
 {
-    match (kind, code) {
-        (0, 0..=2) => Some(Party::SubLayer),
-        (1, 5) => Some(Party::SubLayer),
-        (1, 0..=7) => Some(Party::User),
-        (2, 0..=1) => Some(Party::SubLayer),
-        (2, 2) => Some(Party::User),
-        (3, 0..=1) => Some(Party::SubLayer),
-        (3, 2..=4) => Some(Party::User),
-        _ => None,
+    if kind >= 4 || code >= 8 {
+        return NOBODY;
     }
+    SENDERS[kind as usize][code as usize]
 }
