@@ -1,20 +1,15 @@
-use native.Mathlib.Omega.{arith}
-use mathlib.Core.Path.{refl}
-use Rattle.laws.specs.If.{eq, ne}
+use Rattle.laws.specs.Picks.{picks}
 use Rattle.paper.specs.Invocations.{answer_kind}
 use Rattle.dialogue_acts.proofs.answer_kind.Goals as goal
 
-pub returns-then-tag-eq162 : goal.returns-then-tag-eq162
+pub returns-in-162-clause-is : goal.returns-in-162-clause-is
 unfolding answer_kind
-returns-then-tag-eq162 c =
-    record { is = eq _ _ _ _ (omega arith) refl; low = omega arith }
+returns-in-162-clause-is c = search picks
 
-pub returns-then-tag-eq167 : goal.returns-then-tag-eq167
+pub returns-in-167-clause-is : goal.returns-in-167-clause-is
 unfolding answer_kind
-returns-then-tag-eq167 c =
-    record { is = ne _ _ _ _ (λ h. omega arith) (eq _ _ _ _ (omega arith) refl); low = omega arith }
+returns-in-167-clause-is c = search picks
 
-pub returns : goal.returns
+pub returns-in_default-clause-is : goal.returns-in_default-clause-is
 unfolding answer_kind
-returns c =
-    record { is = ne _ _ _ _ (λ h. omega arith) (ne _ _ _ _ (λ h. omega arith) refl); low = omega arith }
+returns-in_default-clause-is c = search picks

@@ -1,14 +1,11 @@
-use native.Mathlib.Omega.{arith}
-use Rattle.laws.specs.If.{eq, ne}
+use Rattle.laws.specs.Picks.{picks}
 use Rattle.paper.specs.Invocations.{answer_problem}
 use Rattle.dialogue_acts.proofs.answer_problem.Goals as goal
 
-pub returns-then-tag-eq163 : goal.returns-then-tag-eq163
+pub returns-then-tag-eq-ERROR_TAG : goal.returns-then-tag-eq-ERROR_TAG
 unfolding answer_problem
-returns-then-tag-eq163 c =
-    eq _ _ _ _ (omega arith) (omega arith)
+returns-then-tag-eq-ERROR_TAG c = search picks
 
-pub returns : goal.returns
+pub returns-else-tag-eq-ERROR_TAG : goal.returns-else-tag-eq-ERROR_TAG
 unfolding answer_problem
-returns c =
-    ne _ _ _ _ (λ h. omega arith) (omega arith)
+returns-else-tag-eq-ERROR_TAG c = search picks

@@ -1,20 +1,21 @@
-use native.Mathlib.Omega.{arith}
-use mathlib.Core.Path.{refl}
-use Rattle.laws.specs.If.{eq, ne}
+use Rattle.std.proofs.Common.{arith}
+use Rattle.std.proofs.lemmas.Grind.{common_steps}
+use Rattle.laws.specs.If.{if_eq}
 use Rattle.paper.specs.Invocations.{is_answer}
 use Rattle.dialogue_acts.proofs.is_answer.Goals as goal
 
-pub returns-then-tag-eq162 : goal.returns-then-tag-eq162
-unfolding is_answer
-returns-then-tag-eq162 c =
-    eq _ _ _ _ (omega arith) refl
+pub returns-in_default : goal.returns-in_default
+unfolding is_answer if_eq
+returns-in_default c = grind (arith, common_steps)
 
-pub returns-then-tag-eq163 : goal.returns-then-tag-eq163
-unfolding is_answer
-returns-then-tag-eq163 c =
-    ne _ _ _ _ (λ h. omega arith) (eq _ _ _ _ (omega arith) refl)
+pub returns-in_default-2 : goal.returns-in_default-2
+unfolding is_answer if_eq
+returns-in_default-2 c = grind (arith, common_steps)
 
-pub returns : goal.returns
-unfolding is_answer
-returns c =
-    ne _ _ _ _ (λ h. omega arith) (ne _ _ _ _ (λ h. omega arith) refl)
+pub returns-in-162 : goal.returns-in-162
+unfolding is_answer if_eq
+returns-in-162 c = grind (arith, common_steps)
+
+pub returns-in-162-2 : goal.returns-in-162-2
+unfolding is_answer if_eq
+returns-in-162-2 c = grind (arith, common_steps)

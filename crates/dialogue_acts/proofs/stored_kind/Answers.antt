@@ -1,15 +1,11 @@
-use native.Mathlib.Omega.{arith}
-use mathlib.Core.Path.{refl}
-use Rattle.laws.specs.If.{lt, ge}
+use Rattle.laws.specs.Picks.{picks}
 use Rattle.dialogue_acts.specs.Told.{stored_kind}
 use Rattle.dialogue_acts.proofs.stored_kind.Goals as goal
 
-pub returns-then-count-room : goal.returns-then-count-room
+pub returns-then-count-room-clause-is : goal.returns-then-count-room-clause-is
 unfolding stored_kind
-returns-then-count-room c =
-    record { is = lt _ _ _ _ (omega arith) refl; waits = λ h. omega arith }
+returns-then-count-room-clause-is c = search picks
 
-pub returns : goal.returns
+pub returns-else-count-room-clause-is : goal.returns-else-count-room-clause-is
 unfolding stored_kind
-returns c =
-    record { is = ge _ _ _ _ (omega arith) refl; waits = λ h. omega arith }
+returns-else-count-room-clause-is c = search picks

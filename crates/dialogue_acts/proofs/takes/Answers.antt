@@ -1,48 +1,55 @@
-use Rattle.paper.specs.Invocations.{takes}
 use Rattle.laws.specs.Picks.{picks}
+use Rattle.paper.specs.Invocations.{takes}
 use Rattle.dialogue_acts.proofs.takes.Goals as goal
 
-pub returns-then-class-eq1 : goal.returns-then-class-eq1
+pub returns-in-167-default : goal.returns-in-167-default
 unfolding takes
-returns-then-class-eq1 c =
-    search picks
+returns-in-167-default c = search picks
 
-pub returns-then-class-eq3 : goal.returns-then-class-eq3
+pub returns-in-167-default-2 : goal.returns-in-167-default-2
 unfolding takes
-returns-then-class-eq3 c =
-    search picks
+returns-in-167-default-2 c = search picks
 
-pub returns-then-tag-eq167 : goal.returns-then-tag-eq167
+pub returns-in-167-default-3 : goal.returns-in-167-default-3
 unfolding takes
-returns-then-tag-eq167 c =
-    search picks
+returns-in-167-default-3 c = search picks
 
-pub returns-then-class-eq1-2 : goal.returns-then-class-eq1-2
+pub returns-in-167-eq1 : goal.returns-in-167-eq1
 unfolding takes
-returns-then-class-eq1-2 c =
-    search picks
+returns-in-167-eq1 c = search picks
 
-pub returns-then-class-eq3-2 : goal.returns-then-class-eq3-2
+pub returns-in-167-eq1-2 : goal.returns-in-167-eq1-2
 unfolding takes
-returns-then-class-eq3-2 c =
-    search picks
+returns-in-167-eq1-2 c = search picks
 
-pub returns-then-tag-eq162 : goal.returns-then-tag-eq162
+pub returns-in-162-default : goal.returns-in-162-default
 unfolding takes
-returns-then-tag-eq162 c =
-    search picks
+returns-in-162-default c = search picks
 
-pub returns-then-class-eq1-3 : goal.returns-then-class-eq1-3
+pub returns-in-162-default-2 : goal.returns-in-162-default-2
 unfolding takes
-returns-then-class-eq1-3 c =
-    search picks
+returns-in-162-default-2 c = search picks
 
-pub returns-then-class-eq2 : goal.returns-then-class-eq2
+pub returns-in-162-default-3 : goal.returns-in-162-default-3
 unfolding takes
-returns-then-class-eq2 c =
-    search picks
+returns-in-162-default-3 c = search picks
 
-pub returns : goal.returns
+pub returns-in-162-eq1 : goal.returns-in-162-eq1
 unfolding takes
-returns c =
-    search picks
+returns-in-162-eq1 c = search picks
+
+pub returns-in-162-eq1-2 : goal.returns-in-162-eq1-2
+unfolding takes
+returns-in-162-eq1-2 c = search picks
+
+pub returns-in_default-eq1 : goal.returns-in_default-eq1
+unfolding takes
+returns-in_default-eq1 c = search picks
+
+pub returns-in_default : goal.returns-in_default
+unfolding takes
+returns-in_default c = search picks
+
+pub returns-in_default-2 : goal.returns-in_default-2
+unfolding takes
+returns-in_default-2 c = search picks
