@@ -7,17 +7,18 @@ ghost use Rattle.std.specs.Prelude.{◌≡◌, ◌<◌, ◌%◌};
 pub fn wide(x: u8) -> usize
     ensures { (result ≡ x) × (result < 256) }
 {
-    x as usize
+    usize::from(x)
 }
 
 // An octet as a number of 32 bits.
 pub fn number(x: u8) -> u32
     ensures { (result ≡ x) × (result < 256) }
 {
-    x as u32
+    u32::from(x)
 }
 
 // The low octet of a number.
+// Stays: std has no conversion that drops the high octets; `x.to_le_bytes()[0]` is no plainer.
 pub fn low(x: u32) -> u8
     ensures { result ≡ x % 256 }
 {

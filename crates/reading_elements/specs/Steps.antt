@@ -2,8 +2,8 @@
 use Rattle.std.specs.Prelude.{◌≡◌, refl, Bool, true, false, List, get_or}
 use Rattle.std.proofs.Common.{sym, ◌∙◌, sub-one, arith}
 use Rattle.std.proofs.Math.Path.{ap}
-use Prim.Native.Nat.{ℕ, zero, suc, ◌+◌, ◌-◌, ◌<◌}
-use Rattle.laws.specs.If.{if_lt, if_eq, eq, ne, was-lt, true-false}
+use Prim.Native.Nat.{ℕ, zero, suc, ◌+◌, ◌-◌, ◌<◌, ◌≤◌}
+use Rattle.laws.specs.If.{if_lt, if_eq, eq, ne, ge, was-lt, true-false}
 use Rattle.paper.specs.declared.Length.{Length}
 use Rattle.paper.specs.declared.Head.{Head}
 use Rattle.paper.specs.declared.Head.TheVariants.{Bad}
@@ -11,7 +11,7 @@ use Rattle.paper.specs.Elements.{Reading}
 use Rattle.std.specs.Prelude.{Ok, Err}
 use Rattle.paper.specs.declared.Frame.{Frame}
 use Rattle.paper.specs.Elements.{tag_more, tag_end, length_at, constructor, head_by, head_at, ended, end_at, onwards, or_next, contents, by_head, element, frame_by, frame_at}
-use Rattle.reading_elements.specs.declared.Nesting.{Nesting}
+use Rattle.reading_elements.specs.Nested.{frame_of, is_sound, Stands, nesting_by, framed-by, stands-by}
 use Rattle.reading_elements.specs.Bounds.{HeadIn, ReadingIn, FrameIn, nested, head_in, element-in, frame-in}
 
 -- one further octet of a long tag more
@@ -20,10 +20,11 @@ unfolding tag_more
 tag-on s lim zero at h = absurd (h refl)
 tag-on s lim (suc n) at h = ap (λ (k : ℕ). if_lt at lim (if_lt (get_or s at 0) 128 (at + 1) (tag_more s lim k (at + 1))) 0) (sub-one (suc n))
 
-pub tag-over : (s : List ℕ) (lim n at : ℕ) → n ≡ 0 → 0 ≡ tag_more s lim n at
+-- with no octet left, of the tag or up to the limit
+pub tag-over : (s : List ℕ) (lim n at : ℕ) → (0 < n → lim ≤ at) → 0 ≡ tag_more s lim n at
 unfolding tag_more
 tag-over s lim zero at h = refl
-tag-over s lim (suc n) at h = absurd (omega arith)
+tag-over s lim (suc n) at h = ge _ _ _ _ (h (omega arith)) refl
 
 -- the head, of a malformed tag and of a sound one
 pub no-tag : (s : List ℕ) (lim at p : ℕ) → p ≡ tag_end s lim at → p ≡ 0 → Bad ≡ head_at s lim at
@@ -97,9 +98,9 @@ frame-told s d lim at {r} h i q =
     let e : r ≡ frame_at s d lim at = q ∙ ap (λ (g : Head). frame_by g (λ _. element s d lim at)) i in (e, frame-in s d lim at r e)
 
 -- frame and reading, from the head and what the element comes to
-pub nesting-told : (s : List ℕ) (d lim at : ℕ) {r : Nesting} (h : Head) (x : Reading) → h ≡ head_at s lim at → x ≡ element s d lim at
-    → r ≡ record { frame = frame_by h (λ _. x); sound = nested x }
-    → (r.frame ≡ frame_at s d lim at) × (FrameIn at lim r.frame × (r.sound ≡ nested (element s d lim at)))
-nesting-told s d lim at {r} h x i j q =
-    let w = frame-told s d lim at {r = r.frame} h i (ap (λ (n : Nesting). n.frame) q ∙ ap (λ (x : Reading). frame_by h (λ _. x)) j) in
-    (w.0, (w.1, ap (λ (n : Nesting). n.sound) q ∙ ap nested j))
+pub nesting-told : (s : List ℕ) (d lim at : ℕ) (h : Head) (x : Reading) → h ≡ head_at s lim at → x ≡ element s d lim at → is_sound (nesting_by h x) ≡ nested x
+    → (frame_of (nesting_by h x) ≡ frame_at s d lim at)
+    × (FrameIn at lim (frame_of (nesting_by h x)) × ((is_sound (nesting_by h x) ≡ nested (element s d lim at)) × Stands (nesting_by h x)))
+nesting-told s d lim at h x i j q =
+    let w = frame-told s d lim at {r = frame_of (nesting_by h x)} h i (framed-by h x ∙ ap (λ (x : Reading). frame_by h (λ _. x)) j) in
+    (w.0, (w.1, (q ∙ ap nested j, stands-by at lim h x (head_in s lim at h i) (element-in s d lim at x j))))

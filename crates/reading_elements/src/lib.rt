@@ -1,79 +1,59 @@
 // Elements read (01, "Coding"): tag, length, element and contents, frame. Positions into one slice; lim is where the octets around end.
 #![tactic(auto)]
 
-ghost use Rattle.std.specs.Prelude.{true, false, ◌≡◌, ℕ, ◌+◌, ◌*◌, ◌-◌, ◌%◌, ◌<◌, ◌≤◌, length};
+ghost use Rattle.std.specs.Prelude.{true, false, ◌≡◌, ℕ, ◌+◌, ◌*◌, ◌-◌, ◌%◌, ◌<◌, ◌≤◌, length, unwrap_or, IfSome};
 ghost use Rattle.paper.specs.Elements.{tag_more, tag_end, length_at, head_at, ended, contents, element, frame_at};
 ghost use Rattle.std.specs.Prelude.{Ok};
-ghost use Rattle.reading_elements.specs.Bounds.{Past, LengthIn, HeadIn, ReadingIn, FrameIn, nested};
+ghost use Rattle.reading_elements.specs.Bounds.{LengthIn, HeadIn, ReadingIn, FrameIn, nested};
 ghost use Rattle.reading_elements.specs.Short.{Short};
+ghost use Rattle.reading_elements.specs.Nested.{frame_of, is_sound, Stands};
 
 use paper::{Frame, Head, Length, Reading};
 
-// A frame, and whether the element in it is well formed.
+// An element that is well formed, by its frame; one that is not, by the frame that it has all the same; or no frame.
 #[derive(Clone, Copy)]
-pub struct Nesting {
-    pub frame: Frame,
-    pub sound: bool,
+pub enum Nesting {
+    Sound(Frame),
+    Broken(Frame),
+    Nowhere,
 }
 
-const NO_FRAME: Frame = Frame {
-    from: 0,
-    to: 0,
-    stop: 0,
-};
-
-// "Long tags have 1 to 4 further octets": past the last of them, else 0.
-fn tag_more(s: &[u8], lim: usize, at: usize) -> usize
+// "Long tags have 1 to 4 further octets": past the last of them.
+fn tag_more(s: &[u8], lim: usize, at: usize) -> Option<usize>
     requires { lim ≤ length s.now }
-    ensures is { result ≡ tag_more s.now lim 4 at }
-    ensures within { Past at lim result }
+    ensures is { unwrap_or result 0 ≡ tag_more s.now lim 4 at }
+    ensures within { IfSome result (λ e. (at < e) × (e ≤ lim)) }
 {
-    let mut p = at;
-    let mut left: usize = 4;
-    while left > 0 {
-        if p >= lim {
-            return 0;
-        }
+    for p in at..lim.min(at.saturating_add(4)) {
         if s[p] < 128 {
-            return p + 1;
+            return Some(p + 1);
         }
-        p += 1;
-        left -= 1;
     }
-    0
+    None
 }
 
-// Where the tag at a position ends, 0 where it is malformed.
-fn tag_end(s: &[u8], lim: usize, at: usize) -> usize
+// Where the tag at a position ends, if it is not malformed.
+#[tactic(auto, unfolding(paper::specs::Elements::tag_end, laws::specs::If::if_lt, laws::specs::If::if_eq))]
+fn tag_end(s: &[u8], lim: usize, at: usize) -> Option<usize>
     requires { lim ≤ length s.now }
-    ensures is { result ≡ tag_end s.now lim at }
-    ensures within { Past at lim result }
+    ensures is { unwrap_or result 0 ≡ tag_end s.now lim at }
+    ensures within { IfSome result (λ e. (at < e) × (e ≤ lim)) }
 {
-    if at >= lim {
-        return 0;
+    if at >= lim || s[at] == 0 {
+        return None;
     }
-    let t = s[at];
-    if t == 0 {
-        return 0;
-    }
-    if t % 32 != 31 {
-        return at + 1;
+    if s[at] % 32 != 31 {
+        return Some(at + 1);
     }
     let p = at + 1;
-    if p >= lim {
-        return 0;
-    }
-    let b = s[p];
-    if b < 31 {
-        return 0;
-    }
-    if b == 128 {
-        return 0;
+    if p >= lim || s[p] < 31 || s[p] == 128 {
+        return None;
     }
     tag_more(s, lim, p)
 }
 
 // "Length below 128 uses one octet; 81 only for 128 to 255; 82 only for 256 up; 80 (indefinite ..)"
+#[tactic(auto, unfolding(paper::specs::Elements::length_at, laws::specs::If::if_lt, laws::specs::If::if_eq))]
 pub fn length_at(s: &[u8], lim: usize, at: usize) -> Length
     requires { lim ≤ length s.now }
     ensures is { result ≡ length_at s.now lim at }
@@ -82,64 +62,46 @@ pub fn length_at(s: &[u8], lim: usize, at: usize) -> Length
     if at >= lim {
         return Length::Wrong;
     }
-    let l = laws::wide(s[at]);
-    if l < 128 {
-        return Length::Given(at + 1, l);
-    }
-    if l == 128 {
-        return Length::Until(at + 1);
-    }
-    if l == 129 {
-        if at + 1 >= lim {
-            return Length::Wrong;
+    let left = lim - at;
+    match s[at] {
+        l if l < 0x80 => Length::Given(at + 1, usize::from(l)),
+        0x80 => Length::Until(at + 1),
+        0x81 if left >= 2 => {
+            let n = usize::from(s[at + 1]);
+            if n < 128 {
+                return Length::Wrong;
+            }
+            Length::Given(at + 2, n)
         }
-        let n = laws::wide(s[at + 1]);
-        if n < 128 {
-            return Length::Wrong;
+        0x82 if left >= 3 => {
+            let n = usize::from(u16::from_be_bytes([s[at + 1], s[at + 2]]));
+            if n < 256 {
+                return Length::Wrong;
+            }
+            Length::Given(at + 3, n)
         }
-        return Length::Given(at + 2, n);
+        _ => Length::Wrong,
     }
-    if l != 130 {
-        return Length::Wrong;
-    }
-    if lim - at < 3 {
-        return Length::Wrong;
-    }
-    let n = laws::wide(s[at + 1]) * 256 + laws::wide(s[at + 2]);
-    if n < 256 {
-        return Length::Wrong;
-    }
-    Length::Given(at + 3, n)
 }
 
 // The head of an element with any tag and length.
+#[tactic(auto, unfolding(paper::specs::Elements::head_at, paper::specs::Elements::head_by, laws::specs::If::if_lt, laws::specs::If::if_eq))]
 fn any_head(s: &[u8], lim: usize, at: usize) -> Head
     requires { lim ≤ length s.now }
     ensures is { result ≡ head_at s.now lim at }
     ensures within { HeadIn at lim result }
 {
-    let p = tag_end(s, lim, at);
-    if p == 0 {
+    let Some(p) = tag_end(s, lim, at) else {
         return Head::Bad;
-    }
-    let constructor = s[at] / 32 % 2;
+    };
+    let constructor = s[at] / 32 % 2 == 1;
     match length_at(s, lim, p) {
         Length::Wrong => Head::Bad,
-        Length::Until(b) => {
-            if constructor == 1 {
-                return Head::Opens(b);
-            }
-            Head::Bad
-        }
-        Length::Given(b, n) => {
-            if lim - b < n {
-                return Head::Bad;
-            }
-            if constructor == 1 {
-                return Head::Holds(b, b + n);
-            }
-            Head::Whole(b + n)
-        }
+        Length::Until(b) if constructor => Head::Opens(b),
+        Length::Until(_) => Head::Bad,
+        Length::Given(b, n) if lim - b < n => Head::Bad,
+        Length::Given(b, n) if constructor => Head::Holds(b, b + n),
+        Length::Given(b, n) => Head::Whole(b + n),
     }
 }
 
@@ -147,28 +109,23 @@ fn any_head(s: &[u8], lim: usize, at: usize) -> Head
 fn is_short(tag: u8, length: u8) -> bool
     ensures { result ≡ true → (tag ≡ 0 → ⊥) × (tag % 32 ≡ 31 → ⊥) × (length < 128) }
 {
-    if tag == 0 {
-        return false;
-    }
-    if tag % 32 == 31 {
-        return false;
-    }
-    length < 128
+    tag != 0 && tag % 32 != 31 && length < 128
 }
 
+#[tactic(auto, unfolding(paper::specs::Elements::head_at, paper::specs::Elements::head_by, paper::specs::Elements::length_at, laws::specs::If::if_lt, laws::specs::If::if_eq))]
 fn short_head(s: &[u8], lim: usize, at: usize) -> Head
     requires { (lim ≤ length s.now) × Short s.now lim at }
     ensures { result ≡ head_at s.now lim at }
 {
-    let n = laws::wide(s[at + 1]);
-    if lim - at - 2 < n {
-        return Head::Bad;
-    }
+    let n = usize::from(s[at + 1]);
     let b = at + 2;
-    if s[at] / 32 % 2 == 1 {
-        return Head::Holds(b, b + n);
+    if lim - b < n {
+        Head::Bad
+    } else if s[at] / 32 % 2 == 1 {
+        Head::Holds(b, b + n)
+    } else {
+        Head::Whole(b + n)
     }
-    Head::Whole(b + n)
 }
 
 // The tag and length of the element at a position; most are short.
@@ -177,56 +134,39 @@ fn head_at(s: &[u8], lim: usize, at: usize) -> Head
     ensures is { result ≡ head_at s.now lim at }
     ensures within { HeadIn at lim result }
 {
-    if at >= lim {
-        return Head::Bad;
+    if at < lim && lim - at >= 2 && is_short(s[at], s[at + 1]) {
+        short_head(s, lim, at)
+    } else {
+        any_head(s, lim, at)
     }
-    if lim - at < 2 {
-        return any_head(s, lim, at);
-    }
-    if is_short(s[at], s[at + 1]) {
-        return short_head(s, lim, at);
-    }
-    any_head(s, lim, at)
 }
 
-// Past the primitive at a position; 0 where there is none that is well formed.
-fn primitive_end(s: &[u8], left: usize, lim: usize, at: usize) -> usize
+// Past the primitive at a position, if one with a short head stands there and is well formed.
+fn primitive_end(s: &[u8], left: usize, lim: usize, at: usize) -> Option<usize>
     requires { (at ≤ lim) × (lim ≤ length s.now) }
-    ensures is { 0 < result → Ok result ≡ element s.now left lim at }
-    ensures within { Past (at + 1) lim result }
+    ensures is { IfSome result (λ e. Ok e ≡ element s.now left lim at) }
+    ensures within { IfSome result (λ e. (at + 1 < e) × (e ≤ lim)) }
 {
-    if left == 0 {
-        return 0;
+    if left == 0 || lim - at < 2 || !is_short(s[at], s[at + 1]) {
+        return None;
     }
-    if lim - at < 2 {
-        return 0;
+    match short_head(s, lim, at) {
+        Head::Whole(e) => Some(e),
+        _ => None,
     }
-    if is_short(s[at], s[at + 1]) {
-        return match short_head(s, lim, at) {
-            Head::Bad => 0,
-            Head::Whole(e) => e,
-            Head::Holds(_b, _e) => 0,
-            Head::Opens(_b) => 0,
-        };
-    }
-    0
 }
 
 // Whether contents end at a position: at their limit, or, where the length is indefinite, at 00 00.
+#[tactic(auto, unfolding(paper::specs::Elements::ended, laws::specs::If::if_lt, laws::specs::If::if_eq))]
 fn is_end(s: &[u8], indefinite: bool, lim: usize, at: usize) -> bool
     requires { (at ≤ lim) × (lim ≤ length s.now) }
     ensures { result ≡ ended s.now indefinite lim at }
 {
     if indefinite {
-        if lim - at < 2 {
-            return false;
-        }
-        if s[at] != 0 {
-            return false;
-        }
-        return s[at + 1] == 0;
+        lim - at >= 2 && s[at] == 0 && s[at + 1] == 0
+    } else {
+        at == lim
     }
-    at == lim
 }
 
 // "An element is well formed if its contents are": the one at a position, with `left` depths left.
@@ -254,40 +194,27 @@ fn contents(s: &[u8], left: usize, indefinite: bool, lim: usize, outer: usize, a
     ensures { (n : ℕ) → lim - at < n → result ≡ contents (element s.now left) s.now indefinite lim outer n at }
 {
     let mut p = at;
-    loop {
-        if is_end(s, indefinite, lim, p) {
-            if indefinite {
-                return Ok(p + 2);
-            }
-            return Ok(p);
-        }
+    while !is_end(s, indefinite, lim, p) {
         if p == lim {
             return Err(outer);
         }
-        let q = primitive_end(s, left, lim, p);
-        if q != 0 {
-            p = q;
-        } else {
-            match element(s, left, lim, p) {
-                Err(f) => {
-                    return Err(f);
-                }
-                Ok(e) => {
-                    p = e;
-                }
-            }
-        }
+        p = match primitive_end(s, left, lim, p) {
+            Some(e) => e,
+            None => element(s, left, lim, p)?,
+        };
     }
+    Ok(if indefinite { p + 2 } else { p })
 }
 
 // The frame: "an indefinite 6C or component has its end found when well-formed elements lead up to 00 00".
+#[tactic(auto, unfolding(paper::specs::Elements::frame_at))]
 pub fn frame_at(s: &[u8], left: usize, lim: usize, at: usize) -> Frame
     requires { lim ≤ length s.now }
     ensures is { result ≡ frame_at s.now left lim at }
     ensures within { FrameIn at lim result }
 {
     match head_at(s, lim, at) {
-        Head::Bad => NO_FRAME,
+        Head::Bad => Frame::NONE,
         Head::Whole(e) => Frame {
             from: e,
             to: e,
@@ -304,50 +231,44 @@ pub fn frame_at(s: &[u8], left: usize, lim: usize, at: usize) -> Frame
                 to: x - 2,
                 stop: x,
             },
-            Err(_f) => NO_FRAME,
+            Err(_) => Frame::NONE,
         },
-    }
-}
-
-fn sound(from: usize, to: usize, stop: usize) -> Nesting
-    ensures { result ≡ record { frame = record { from = from; to = to; stop = stop }; sound = true } }
-{
-    Nesting {
-        frame: Frame { from, to, stop },
-        sound: true,
-    }
-}
-
-fn unsound(frame: Frame) -> Nesting
-    ensures { result ≡ record { frame = frame; sound = false } }
-{
-    Nesting {
-        frame,
-        sound: false,
     }
 }
 
 // Frame and reading of an element in one pass.
 pub fn nesting_at(s: &[u8], left: usize, lim: usize, at: usize) -> Nesting
     requires { (lim ≤ length s.now) × (0 < left) }
-    ensures is { result.frame ≡ frame_at s.now left lim at }
-    ensures within { FrameIn at lim result.frame }
-    ensures sound { result.sound ≡ nested (element s.now left lim at) }
+    ensures is { frame_of result ≡ frame_at s.now left lim at }
+    ensures within { FrameIn at lim (frame_of result) }
+    ensures sound { is_sound result ≡ nested (element s.now left lim at) }
+    ensures stands { Stands result }
 {
     match head_at(s, lim, at) {
-        Head::Bad => unsound(NO_FRAME),
-        Head::Whole(e) => sound(e, e, e),
-        Head::Holds(b, e) => match contents(s, left - 1, false, e, at, b) {
-            Ok(_x) => sound(b, e, e),
-            Err(_f) => unsound(Frame {
+        Head::Bad => Nesting::Nowhere,
+        Head::Whole(e) => Nesting::Sound(Frame {
+            from: e,
+            to: e,
+            stop: e,
+        }),
+        Head::Holds(b, e) => {
+            let frame = Frame {
                 from: b,
                 to: e,
                 stop: e,
-            }),
-        },
+            };
+            match contents(s, left - 1, false, e, at, b) {
+                Ok(_) => Nesting::Sound(frame),
+                Err(_) => Nesting::Broken(frame),
+            }
+        }
         Head::Opens(b) => match contents(s, left - 1, true, lim, at, b) {
-            Ok(x) => sound(b, x - 2, x),
-            Err(_f) => unsound(NO_FRAME),
+            Ok(end) => Nesting::Sound(Frame {
+                from: b,
+                to: end - 2,
+                stop: end,
+            }),
+            Err(_) => Nesting::Nowhere,
         },
     }
 }

@@ -1,12 +1,12 @@
 -- THE READER GIVES THE COMPONENTS of its message, one after another, and then its end (01, "Rows"). Assumes nothing.
 use Rattle.std.proofs.Math.Path.{◌≡◌, refl, sym, ap, subst}
 use Rattle.std.proofs.Common.{◌∙◌, arith, ltb-true, ltb-false}
-use Rattle.std.specs.Prelude.{Bool, true, false, get_or, ltb}
+use Rattle.std.specs.Prelude.{Bool, true, false, get_or, ltb, Option, None, Some}
 use mathlib.Core.List.{List, [], ◌∷◌}
-use Prim.Native.Nat.{ℕ, zero, suc, ◌+◌, ◌*◌, ◌-◌, ◌/◌, ◌%◌, ◌<◌, ◌≤◌}
+use Prim.Native.Nat.{ℕ, zero, suc, ◌+◌, ◌-◌, ◌<◌, ◌≤◌}
 use Rattle.std.proofs.Math.ListN.{length}
 use Rattle.std.specs.Borrow.{Bor}
-use Rattle.laws.specs.If.{if_lt, lt, ge, eq, ne, either_lt, by-lt, by-eq}
+use Rattle.laws.specs.If.{if_lt, lt, ge, eq, ne, by-lt, by-eq}
 use Rattle.paper.specs.declared.Component.{Component}
 use Rattle.paper.specs.declared.Message.{Message}
 use Rattle.paper.specs.Sizes.{longest_message}
@@ -16,34 +16,20 @@ use Rattle.paper.specs.Calls.{items_of}
 use Rattle.paper.specs.Readers.{sound_items, items_by, message_items}
 use Rattle.reading_components.specs.Bounds.{ComponentIn, component-in}
 use Rattle.reading_messages.specs.Bounds.{MessageIn, message-in}
-use Rattle.reading_reader.specs.declared.Reader.{Reader}
+use Rattle.reading_reader.specs.declared.Cursor.{Cursor}
 use Rattle.reading_reader.specs.declared.Piece.{Piece}
-use Rattle.reading_reader.specs.declared.Piece.TheVariants.{Part, End}
-use Rattle.reading_reader.specs.Steps.{of-message, of-component, from_start}
-use Rattle.reading_reader.specs.Read.{cursor_of, first_cursor, piece_of, piece_in, piece_by, piece_at, at_start, next_of, moved_to, Gives, ends, goes}
-
--- the two numbers of a cursor
-cursor-in : (s : List ℕ) (lim at : ℕ) → at < 1024 → piece_by s (lim * 1024 + at) ≡ piece_in s lim at
-cursor-in s lim at h =
-    let p : (lim * 1024 + at) / 1024 ≡ lim = omega arith in
-    let q : (lim * 1024 + at) % 1024 ≡ at = omega arith in
-    ap (λ (a : ℕ). piece_in s a ((lim * 1024 + at) % 1024)) p ∙ ap (piece_in s lim) q
-
--- a cursor that is not the start
-cursor-at : (s : List ℕ) (lim at : ℕ) → 0 < lim → at < 1024 → piece_at s (lim * 1024 + at) ≡ piece_in s lim at
-unfolding piece_at
-cursor-at s lim at g h = sym (ne _ _ _ _ (λ z. omega arith) refl) ∙ cursor-in s lim at h
+use Rattle.reading_reader.specs.declared.Reader.{Reader}
+use Rattle.reading_reader.specs.Steps.{of-message, of-component}
+use Rattle.reading_reader.specs.Read.{cursor_of, first_cursor, piece_of, piece_in, piece_at, left_at, at_start, moved_to, Gives, ends, goes}
 
 -- what it gives is that alone
 pub gives_one : {r : Reader} {is js : List Item} → Gives r is → Gives r js → is ≡ js
 gives_one (ends e) (ends f) = refl
-gives_one (ends e) (goes at c k f h) = let z : ◌≡◌ {A = ℕ} 0 1 = cc in absurd (omega arith)
-gives_one (goes at c k e g) (ends f) = let z : ◌≡◌ {A = ℕ} 0 1 = cc in absurd (omega arith)
-gives_one {r} (goes at c k {is} e g) (goes at' c' k' {is = js} f h) =
-    let x : at ≡ at' = cc in
-    let y : c ≡ c' = cc in
-    let z : k ≡ k' = cc in
-    let w : is ≡ js = gives_one g (subst (λ (k : ℕ). Gives (moved_to r k) js) (sym z) h) in
+gives_one (ends e) (goes p f h) = let z : ◌≡◌ {A = ℕ} 0 1 = cc in absurd (omega arith)
+gives_one (goes p e g) (ends f) = let z : ◌≡◌ {A = ℕ} 0 1 = cc in absurd (omega arith)
+gives_one {r} (goes p {is} e g) (goes q {is = js} f h) =
+    let x : p ≡ q = cc in
+    let w : is ≡ js = gives_one g (subst (λ (p : Piece). Gives (moved_to r (Some p.next)) js) (sym x) h) in
     cc
 
 as-list : {r : Reader} {is js : List Item} → Gives r is → js ≡ is → Gives r js
@@ -53,44 +39,40 @@ module _ (msg : Bor (List ℕ)) where
   abbrev s : List ℕ
   s = msg.now
 
-  abbrev standing : ℕ → Reader
-  standing k = moved_to (at_start msg) k
+  abbrev standing : Option Cursor → Reader
+  standing k = record { msg = msg; cursor = k }
 
-  -- the same from a cursor at which the same stands
-  same_from : (j k : ℕ) (is : List Item) → piece_at s j ≡ piece_at s k → Gives (standing k) is → Gives (standing j) is
-  same_from j k [] e (ends f) = ends (e ∙ f)
-  same_from j k (i ∷ is) e (goes at c n f g) = goes at c n (e ∙ f) g
+  abbrev standing_at : ℕ → ℕ → Reader
+  standing_at lim at = standing (Some (record { lim = lim; at = at }))
 
   -- none from a start that has none
-  none_from : 0 ≡ first_cursor s → Gives (at_start msg) []
-  unfolding piece_in
-  none_from e = ends (sym (from_start s 0 0 End e refl (either_lt _ _ _ _ refl (either_lt _ _ _ _ refl (ge _ _ _ _ (omega arith) refl)))))
+  none_from : None ≡ first_cursor s → Gives (at_start msg) []
+  none_from e = ends (sym (ap (piece_at s) e))
 
-  module _ (octets : (i : ℕ) → get_or s i 0 < 256) (short : length s ≤ 512) (lim : ℕ) (some : 0 < lim) (inside : lim ≤ length s) where
+  module _ (octets : (i : ℕ) → get_or s i 0 < 256) (short : length s ≤ 512) (lim : ℕ) (inside : lim ≤ length s) where
     -- nothing after the end
-    piece-past : (at : ℕ) → at < 1024 → lim ≤ at → piece_at s (lim * 1024 + at) ≡ End
+    piece-past : (at : ℕ) → lim ≤ at → piece_in s lim at ≡ None
     unfolding piece_in
-    piece-past at h g = cursor-at s lim at some h ∙ sym (ge _ _ _ _ short (ge _ _ _ _ inside (ge _ _ _ _ g refl)))
+    piece-past at g = sym (ge _ _ _ _ short (ge _ _ _ _ inside (ge _ _ _ _ g refl)))
 
-    piece-here : (at : ℕ) (p : Piece) → at < lim → p ≡ piece_of lim at (component_at s lim at) → piece_at s (lim * 1024 + at) ≡ p
-    piece-here at p h e = cursor-at s lim at some (omega arith) ∙ sym (of-component s lim at _ p short inside h refl e)
+    piece-here : (at : ℕ) (p : Option Piece) → at < lim → p ≡ piece_of lim at (component_at s lim at) → piece_in s lim at ≡ p
+    piece-here at p h e = sym (of-component s lim at _ p short inside h refl e)
 
     -- after a sound component, the same as what is given from where it stops
-    sound-rest : (n : ℕ) (c : Component) → c.fault ≡ no_fault → c.stop ≤ lim
-        → (c.stop < lim → Gives (standing (lim * 1024 + c.stop)) (sound_items (items s lim n c.stop)))
-        → Gives (standing (lim * 1024 + c.stop)) (sound_items (go_on (ltb (next_start lim c) lim) (λ _. items s lim n (next_start lim c))))
+    sound-rest : (n : ℕ) (c : Component) → c.fault ≡ no_fault → (c.stop < lim → Gives (standing_at lim c.stop) (sound_items (items s lim n c.stop)))
+        → Gives (standing_at lim c.stop) (sound_items (go_on (ltb (next_start lim c) lim) (λ _. items s lim n (next_start lim c))))
     unfolding sound_items next_start
-    sound-rest n c f w on = subst (λ (x : ℕ). Gives (standing (lim * 1024 + c.stop)) (sound_items (go_on (ltb x lim) (λ _. items s lim n x)))) next (go (ltb c.stop lim) refl)
+    sound-rest n c f on = subst (λ (x : ℕ). Gives (standing_at lim c.stop) (sound_items (go_on (ltb x lim) (λ _. items s lim n x)))) next (go (ltb c.stop lim) refl)
       where
         next : c.stop ≡ next_start lim c
         next = eq _ _ _ _ f refl
 
-        go : (b : Bool) → ltb c.stop lim ≡ b → Gives (standing (lim * 1024 + c.stop)) (sound_items (go_on b (λ _. items s lim n c.stop)))
+        go : (b : Bool) → ltb c.stop lim ≡ b → Gives (standing_at lim c.stop) (sound_items (go_on b (λ _. items s lim n c.stop)))
         go true e = on (ltb-true _ _ e)
-        go false e = let z = ltb-false _ _ e in ends (piece-past c.stop (omega arith) z)
+        go false e = let z = ltb-false _ _ e in ends (piece-past c.stop z)
 
     -- the components from a position on
-    sound-from : (n at : ℕ) → at ≤ lim → lim - at < n → Gives (standing (lim * 1024 + at)) (sound_items (items s lim n at))
+    sound-from : (n at : ℕ) → at ≤ lim → lim - at < n → Gives (standing_at lim at) (sound_items (items s lim n at))
     unfolding items sound_items piece_of
     sound-from zero at h i = absurd (omega arith)
     sound-from (suc n) at h i =
@@ -99,12 +81,12 @@ module _ (msg : Bor (List ℕ)) where
         by-eq c.fault no_fault (item s lim at ∷ sound_items (go_on (ltb (next_start lim c) lim) (λ _. items s lim n (next_start lim c)))) [] refl
         (λ f q.
         let z = w.long f in
-        as-list (goes at c (lim * 1024 + c.stop) (piece-here at _ (omega (arith, w.ends)) (eq _ _ _ _ f refl))
-        (sound-rest n c f w.ends (λ l. sound-from n c.stop w.ends (omega arith)))) q)
+        as-list (goes (record { at = at; component = c; next = record { lim = lim; at = c.stop } }) (piece-here at _ (omega (arith, w.ends)) (eq _ _ _ _ f refl))
+        (sound-rest n c f (λ l. sound-from n c.stop w.ends (omega arith)))) q)
         (λ f q.
         as-list (ends (by-lt {A = ℕ} at lim 0 1 refl
-        (λ l _. piece-here at End l (ne _ _ _ _ f refl))
-        (λ l _. piece-past at (omega arith) l))) q)
+        (λ l _. piece-here at None l (ne _ _ _ _ f refl))
+        (λ l _. piece-past at l))) q)
 
   module _ (octets : (i : ℕ) → get_or s i 0 < 256) (some : length s ≡ 0 → ⊥) (short : length s ≤ 512) where
     -- of a sound one
@@ -114,19 +96,16 @@ module _ (msg : Bor (List ℕ)) where
         let m : Message = message_of s in
         let w : MessageIn (length s) m = message-in s m refl in
         by-eq m.from 0 [] (items s m.to (m.to - m.from + 1) m.from) refl
-        (λ z q. as-list (none_from (of-message s m 0 some short refl (eq _ _ _ _ f (eq _ _ _ _ z refl)))) (ap sound_items q))
+        (λ z q. as-list (none_from (of-message s m None some short refl (eq _ _ _ _ f (eq _ _ _ _ z refl)))) (ap sound_items q))
         (λ z q.
-        let k : ℕ = m.to * 1024 + m.from in
         let v : m.from ≤ m.to = w.order in
         let u : m.to ≤ length s = w.ends in
-        as-list (same_from 0 k _
-        (sym (from_start s 0 k _ (of-message s m k some short refl (eq _ _ _ _ f (ne _ _ _ _ z refl))) refl refl)
-        ∙ cursor-in s m.to m.from (omega arith)
-        ∙ sym (cursor-at s m.to m.from (omega arith) (omega arith)))
-        (sound-from octets short m.to (omega arith) u (m.to - m.from + 1) m.from v (omega arith)))
+        as-list (subst (λ (k : Option Cursor). Gives (standing k) (sound_items (items s m.to (m.to - m.from + 1) m.from)))
+        (of-message s m _ some short refl (eq _ _ _ _ f (ne _ _ _ _ z refl)))
+        (sound-from octets short m.to u (m.to - m.from + 1) m.from v (omega arith)))
         (ap sound_items q))
 
--- THE READER: a new one, going on by `next` and `moved`, gives exactly the components that 01's reader gives, and then the end
+-- THE READER: a new one, going on by `next`, gives exactly the components that 01's reader gives, and then none
 pub reader-gives : (msg : Bor (List ℕ)) → ((i : ℕ) → get_or msg.now i 0 < 256) → Gives (at_start msg) (message_items msg.now)
 unfolding message_items items_by first_cursor cursor_of
 reader-gives msg octets =
@@ -138,53 +117,50 @@ reader-gives msg octets =
     (λ f q. as-list (gives-sound msg octets z l f) q)
     (λ f q. as-list (none_from msg (ne _ _ _ _ z (ge _ _ _ _ l (ne _ _ _ _ f refl)))) q)))
 
--- WHERE A PIECE LIES: inside the message, its parameter inside it; and the cursor goes up, so that a reading ends
-pub record PieceLies (k at : ℕ) (c : Component) (next : ℕ) : Type 0 where
-  pub starts : at < c.stop
-  pub ends : c.stop ≤ 512
-  pub order : c.par ≤ c.parstop
-  pub up : k < next
-  pub most : next ≤ 525312
+-- WHERE A PIECE LIES: inside the message, its parameter inside it; and there is less left after it, so that a reading ends
+pub record PieceLies (k : Option Cursor) (p : Piece) : Type 0 where
+  pub starts : p.at < p.component.stop
+  pub ends : p.component.stop ≤ 512
+  pub order : p.component.par ≤ p.component.parstop
+  pub down : left_at (Some p.next) < left_at k
+  pub most : left_at k ≤ 512
 
-module _ (s : List ℕ) (octets : (i : ℕ) → get_or s i 0 < 256) (k at : ℕ) (c : Component) (next : ℕ) where
-  piece-in : (lim p : ℕ) → k < lim * 1024 + p + 1 → Part at c next ≡ piece_in s lim p → PieceLies k at c next
+module _ (s : List ℕ) (octets : (i : ℕ) → get_or s i 0 < 256) (p : Piece) where
+  none : (k : Option Cursor) → Some p ≡ None → PieceLies k p
+  none k q = let z : ◌≡◌ {A = ℕ} 0 1 = cc in absurd (omega arith)
+
+  piece-lies : (k : Option Cursor) → Some p ≡ piece_at s k → PieceLies k p
   unfolding piece_in piece_of
-  piece-in lim p h q =
-      by-lt _ _ _ _ q (λ a q. none q)
-      (λ a q. by-lt _ _ _ _ q (λ b q. none q)
+  piece-lies None q = none None q
+  piece-lies (Some k) q =
+      by-lt _ _ _ _ q (λ a q. none (Some k) q)
+      (λ a q. by-lt _ _ _ _ q (λ b q. none (Some k) q)
       (λ b q. by-lt _ _ _ _ q
       (λ d q. by-eq _ _ _ _ q
       (λ f q.
-      let i : c ≡ component_at s lim p = cc in
-      let w : ComponentIn (p + 5) lim c = component-in s octets lim p c i in
-      let g : c.fault ≡ no_fault = ap (λ (c : Component). c.fault) i ∙ f in
-      let j : at ≡ p = cc in
-      let x : next ≡ lim * 1024 + c.stop = cc in
-      let l : p + 5 ≤ c.stop = w.long g in
-      record { starts = omega arith; ends = omega (arith, w.ends); order = w.order; up = omega arith; most = omega (arith, w.ends) })
-      (λ f q. none q))
-      (λ d q. none q)))
-    where
-      none : Part at c next ≡ End → PieceLies k at c next
-      none q = let z : ◌≡◌ {A = ℕ} 0 1 = cc in absurd (omega arith)
+      let i : p.component ≡ component_at s k.lim k.at = cc in
+      let w : ComponentIn (k.at + 5) k.lim p.component = component-in s octets k.lim k.at p.component i in
+      let g : p.component.fault ≡ no_fault = ap (λ (c : Component). c.fault) i ∙ f in
+      let j : p.at ≡ k.at = cc in
+      let u : p ≡ record { at = k.at; component = component_at s k.lim k.at; next = record { lim = k.lim; at = (component_at s k.lim k.at).stop } } = cc in
+      let x : p.next.lim ≡ k.lim = ap (λ (p : Piece). p.next.lim) u in
+      let y : p.next.at ≡ p.component.stop = ap (λ (p : Piece). p.next.at) u ∙ ap (λ (c : Component). c.stop) (sym i) in
+      let l : k.at + 5 ≤ p.component.stop = w.long g in
+      record { starts = omega arith; ends = omega (arith, w.ends); order = w.order; down = omega (arith, w.ends); most = omega arith })
+      (λ f q. none (Some k) q))
+      (λ d q. none (Some k) q)))
 
-  pub piece-lies : (r : Piece) → r ≡ piece_at s k → r ≡ Part at c next → PieceLies k at c next
-  unfolding piece_at
-  piece-lies r e p =
-      by-eq _ _ _ _ (sym p ∙ e) (λ z q. piece-in (first_cursor s / 1024) (first_cursor s % 1024) (omega arith) q) (λ z q. piece-in (k / 1024) (k % 1024) (omega arith) q)
+-- the same of a piece, if there is one
+pub record PieceFits (k : Option Cursor) (r : Option Piece) : Type 0 where
+  pub lies : (p : Piece) → r ≡ Some p → PieceLies k p
 
--- the same of a piece, whatever it is
-pub record PieceFits (k : ℕ) (p : Piece) : Type 0 where
-  pub lies : (at : ℕ) (c : Component) (next : ℕ) → p ≡ Part at c next → PieceLies k at c next
+pub piece-fits : (s : List ℕ) → ((i : ℕ) → get_or s i 0 < 256) → (k : Option Cursor) → PieceFits k (piece_at s k)
+piece-fits s octets k = record { lies = λ p e. piece-lies s octets p k (sym e) }
 
-module _ (msg : Bor (List ℕ)) (octets : (i : ℕ) → get_or msg.now i 0 < 256) where
-  pub piece-fits : (k : ℕ) → PieceFits k (next_of (moved_to (at_start msg) k))
-  piece-fits k = record { lies = λ at c next e. piece-lies msg.now octets k at c next _ refl e }
-
-  -- so the pieces are few: each is further on
-  pub gives-few : (k : ℕ) (is : List Item) → k ≤ 525312 → Gives (moved_to (at_start msg) k) is → length is + k ≤ 525312
-  gives-few k [] h (ends e) = omega arith
-  gives-few k (i ∷ is) h (goes at c n e g) =
-      let w : PieceLies k at c n = (piece-fits k).lies at c n e in
-      let z = gives-few n is w.most g in
-      omega (arith, w.up)
+-- so the pieces are few: there is less left after each
+pub gives-few : (r : Reader) (is : List Item) → ((i : ℕ) → get_or r.msg.now i 0 < 256) → Gives r is → (length is ≤ left_at r.cursor) × (length is ≤ 512)
+gives-few r [] octets (ends e) = (omega arith, omega arith)
+gives-few r (i ∷ is) octets (goes p e g) =
+    let w : PieceLies r.cursor p = (piece-fits r.msg.now octets r.cursor).lies p e in
+    let z = gives-few (moved_to r (Some p.next)) is octets g in
+    (omega (arith, w.down, z.0), omega (arith, w.down, w.most, z.0))

@@ -2,90 +2,112 @@
 #![tactic(auto)]
 
 ghost use Rattle.std.specs.Prelude.{◌≡◌};
-ghost use Rattle.reading_reader.specs.Read.{first_cursor, piece_in, piece_at, at_start, next_of, moved_to};
+ghost use Rattle.std.specs.Iterator.{at_most};
+ghost use Rattle.reading_reader.specs.Read.{first_cursor, piece_in, piece_at, at_start, moved_to, left_at, Goes};
+ghost use Rattle.reading_reader.specs.Whole.{PieceFits};
 
 use paper::{Component, IS_SOUND, LONGEST_MESSAGE, NO_FAULT};
 
-// The message, and the cursor: 0 at its start, else 1024 times where the components end, plus where the next one starts.
+// Where the components of a message end, and where the next one starts.
 #[derive(Clone, Copy)]
-pub struct Reader<'a> {
-    pub msg: &'a [u8],
+pub struct Cursor {
+    pub lim: usize,
     pub at: usize,
 }
 
+// A component: where it starts, and the cursor past it.
 #[derive(Clone, Copy)]
-pub enum Piece {
-    // where it starts, the component, and the cursor for the next one
-    Part(usize, Component, usize),
-    End,
+pub struct Piece {
+    pub at: usize,
+    pub component: Component,
+    pub next: Cursor,
 }
 
-// The cursor of the first component, 0 for none: "none where the message is refused by 4, dropped for its form or at fault with cause 0 or 2".
-fn first_cursor(s: &[u8]) -> usize
+// The message, and the cursor of the component to give next, none where the message has no components.
+#[derive(Clone, Copy)]
+pub struct Reader<'a> {
+    pub msg: &'a [u8],
+    pub cursor: Option<Cursor>,
+}
+
+// The cursor of the first component: "none where the message is refused by 4, dropped for its form or at fault with cause 0 or 2".
+fn first_cursor(s: &[u8]) -> Option<Cursor>
     ensures { result ≡ first_cursor s.now }
 {
-    if s.len() == 0 {
-        return 0;
-    }
-    if s.len() > LONGEST_MESSAGE {
-        return 0;
+    if s.is_empty() || s.len() > LONGEST_MESSAGE {
+        return None;
     }
     let m = reading_messages::message_of(s);
-    if m.fault != IS_SOUND {
-        return 0;
+    if m.fault != IS_SOUND || m.from == 0 {
+        return None;
     }
-    if m.from == 0 {
-        return 0;
-    }
-    m.to * 1024 + m.from
+    Some(Cursor {
+        lim: m.to,
+        at: m.from,
+    })
 }
 
 // The component at a position, where they end at lim.
-fn piece_in(s: &[u8], lim: usize, at: usize) -> Piece
+fn piece_in(s: &[u8], lim: usize, at: usize) -> Option<Piece>
     ensures { result ≡ piece_in s.now lim at }
 {
-    if s.len() > LONGEST_MESSAGE {
-        return Piece::End;
+    if s.len() > LONGEST_MESSAGE || s.len() < lim || at >= lim {
+        return None;
     }
-    if s.len() < lim {
-        return Piece::End;
+    let component = reading_components::component_at(s, lim, at);
+    if component.fault != NO_FAULT {
+        return None;
     }
-    if at >= lim {
-        return Piece::End;
-    }
-    let c = reading_components::component_at(s, lim, at);
-    if c.fault != NO_FAULT {
-        return Piece::End;
-    }
-    Piece::Part(at, c, lim * 1024 + c.stop)
+    let next = Cursor {
+        lim,
+        at: component.stop,
+    };
+    Some(Piece {
+        at,
+        component,
+        next,
+    })
 }
 
-// The component at a cursor. The message is read at its start only.
-fn piece_at(msg: &[u8], at: usize) -> Piece
-    ensures { result ≡ piece_at msg.now at }
+// The component at a cursor.
+fn piece_at(s: &[u8], cursor: Option<Cursor>) -> Option<Piece>
+    ensures is { result ≡ piece_at s.now cursor }
+    ensures fits { PieceFits cursor result }
 {
-    if at == 0 {
-        let k = first_cursor(msg);
-        return piece_in(msg, k / 1024, k % 1024);
+    let k = cursor?;
+    piece_in(s, k.lim, k.at)
+}
+
+impl<'a> Reader<'a> {
+    // Before the first component. The message is read here only.
+    pub fn new(msg: &'a [u8]) -> Reader<'a>
+        ensures { result ≡ at_start msg.entry }
+    {
+        Reader {
+            msg,
+            cursor: first_cursor(msg),
+        }
     }
-    piece_in(msg, at / 1024, at % 1024)
+
+    // The same message from another cursor on.
+    pub fn moved(self, cursor: Option<Cursor>) -> Reader<'a>
+        ensures { result ≡ moved_to self.entry cursor }
+    {
+        Reader { cursor, ..self }
+    }
 }
 
-// The reader itself: thin functions over that cursor. Its law (specs/Whole.antt, reader-gives) is about what their contracts name.
-pub fn new<'a>(msg: &'a [u8]) -> Reader<'a>
-    ensures { result ≡ at_start msg.entry }
-{
-    Reader { msg, at: 0 }
-}
+// The reader's law (specs/Whole.antt, reader-gives) is about what these members name.
+impl<'a> Iterator for Reader<'a> {
+    type Item = Piece;
 
-pub fn next<'a>(r: Reader<'a>) -> Piece
-    ensures { result ≡ next_of r.entry }
-{
-    piece_at(r.msg, r.at)
-}
+    ghost next_gives = { Goes };
 
-pub fn moved<'a>(r: Reader<'a>, at: usize) -> Reader<'a>
-    ensures { result ≡ moved_to r.entry at }
-{
-    Reader { msg: r.msg, at }
+    ghost remaining = { λ r. at_most (left_at r.cursor) };
+
+    fn next(&mut self) -> Option<Piece> {
+        let p = piece_at(self.msg, self.cursor)?;
+        self.cursor = Some(p.next);
+        Some(p)
+    }
 }

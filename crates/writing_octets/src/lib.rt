@@ -21,12 +21,9 @@ pub fn copy_at(out: &mut [u8], at: usize, given: &[u8]) -> usize
     requires { at + length given.now ≤ length out.old }
     ensures { Wrote out.old at given.now result out.new }
 {
-    let mut i = 0;
-    while i < given.len() {
-        out[at + i] = given[i];
-        i += 1;
-    }
-    at + i
+    let end = at + given.len();
+    out[at..end].copy_from_slice(given);
+    end
 }
 
 // The octets that the shortest definite length of n takes.
@@ -34,13 +31,11 @@ fn length_size(n: usize) -> usize
     ensures is { result ≡ length (length_octets n) }
     ensures within { (1 ≤ result) × (result ≤ 3) }
 {
-    if n >= 256 {
-        return 3;
+    match n {
+        0..=127 => 1,
+        128..=255 => 2,
+        _ => 3,
     }
-    if n >= 128 {
-        return 2;
-    }
-    1
 }
 
 // "We write definite, shortest lengths."
@@ -48,16 +43,17 @@ fn write_length(out: &mut [u8], at: usize, n: usize) -> usize
     requires { (n < 65536) × (at + length (length_octets n) ≤ length out.old) }
     ensures { Wrote out.old at (length_octets n) result out.new }
 {
-    if n < 128 {
-        return put(out, at, n as u8);
+    match n {
+        0..=127 => put(out, at, n as u8),
+        128..=255 => {
+            let a = put(out, at, 0x81);
+            put(out, a, n as u8)
+        }
+        _ => {
+            let a = put(out, at, 0x82);
+            copy_at(out, a, &u16::to_be_bytes(n as u16))
+        }
     }
-    if n < 256 {
-        let a = put(out, at, 0x81);
-        return put(out, a, n as u8);
-    }
-    let a = put(out, at, 0x82);
-    let b = put(out, a, (n / 256) as u8);
-    put(out, b, (n % 256) as u8)
 }
 
 // The tag and length of an element whose contents are n octets, for which there is room too.
@@ -92,9 +88,5 @@ pub fn element_size(n: usize) -> usize
 pub fn clear(out: &mut [u8])
     ensures { out.new ≡ replicate (length out.old) 0 }
 {
-    let mut i = 0;
-    while i < out.len() {
-        out[i] = 0;
-        i += 1;
-    }
+    out.fill(0);
 }

@@ -8,6 +8,6 @@ pub returns-then-n-eq0 : goal.returns-then-n-eq0
 returns-then-n-eq0 c =
     record { is = omega (arith, ap length (no-components c.args.n c.if-n-eq0.true)); within = omega arith }
 
-pub returns : goal.returns
-returns c =
+pub returns-else-n-eq0 : goal.returns-else-n-eq0
+returns-else-n-eq0 c =
     record { is = omega (arith, ap length (some-components c.args.n c.if-n-eq0.false)); within = omega arith }

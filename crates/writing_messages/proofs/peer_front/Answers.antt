@@ -1,11 +1,7 @@
-use mathlib.Core.Path.{sym}
-use Prim.Native.Nat.{◌+◌}
-use native.Mathlib.Omega.{arith}
-use Rattle.writing_octets.specs.Lengths.{front-wrote, peer-length}
+use Rattle.std.proofs.Common.{◌+◌, length, sym, arith}
+use Rattle.writing_octets.specs.Lengths.{front-wrote, id-length}
 use Rattle.writing_messages.proofs.peer_front.Goals as goal
 
-pub returns : goal.returns
-returns c =
-    let w = c.write_head-a.ensures in
-    let v = c.write_peer.ensures.is in
-    record { is = front-wrote c.args.tag (2 + c.args.peerlen) c.args.m w v (sym (peer-length _ _ (omega arith) (omega arith))); within = omega arith }
+pub returns-clause-is : goal.returns-clause-is
+returns-clause-is c =
+    front-wrote c.args.tag (2 + length c.args.peer.now) c.args.m c.write_head-a.ensures c.write_id.ensures.is (sym (id-length _ _ (omega arith)))

@@ -13,6 +13,6 @@ pub write_head-requires : goal.write_head-requires
 write_head-requires c =
     omega (arith, ap length (some-components c.args.n c.if-n-eq0.false))
 
-pub returns : goal.returns
-returns c =
+pub returns-else-n-eq0 : goal.returns-else-n-eq0
+returns-else-n-eq0 c =
     wrote_as c.write_head.ensures (some-components _ c.if-n-eq0.false)
