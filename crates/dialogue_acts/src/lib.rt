@@ -16,6 +16,7 @@ use paper::{
     ROW_NOT_LAST, ROW_NOT_STORED, ROW_REJECTED, ROW_REMOTE_REJECT, ROW_USER_REJECT, Reject, SENT,
     WAIT,
 };
+use reading_problems::Party;
 
 // Problems: the kind's 256 and a code. Of an invoke, that its linked ID is none of ours; the first of a result and of an error.
 const UNRECOGNIZED_LINKED_ID: u32 = 256 + 5;
@@ -56,6 +57,7 @@ fn puts(kind: u32, problem: u32, i: usize, v: Invocation) -> Told
 }
 
 // A reject of ours waits if fewer than room do, and else isn't stored.
+#[tactic(auto, unfolding(crate::specs::Told::stored_kind, laws::specs::If::if_lt))]
 fn stored_kind(count: u8, room: u8) -> u32
     ensures is { result ≡ stored_kind room count }
     ensures waits { result ≡ row_rejected → count < room }
@@ -75,6 +77,7 @@ enum Taken {
     Waits,
 }
 
+#[tactic(auto, unfolding(paper::specs::Invocations::takes, laws::specs::If::if_eq))]
 fn takes(class: u8, tag: u8) -> Taken
     ensures { taken result ≡ takes class tag }
 {
@@ -88,6 +91,7 @@ fn takes(class: u8, tag: u8) -> Taken
     }
 }
 
+#[tactic(auto, unfolding(paper::specs::Invocations::answer_kind, laws::specs::If::if_eq))]
 fn answer_kind(tag: u8) -> u32
     ensures is { result ≡ answer_kind tag }
     ensures low { result < row_rejected }
@@ -100,6 +104,7 @@ fn answer_kind(tag: u8) -> u32
 }
 
 // Result problems, of an A3 error problems.
+#[tactic(auto, unfolding(paper::specs::Invocations::answer_problem, laws::specs::If::if_eq))]
 fn answer_problem(tag: u8, code: u32) -> u32
     requires { code < 2 }
     ensures { result ≡ answer_problem tag code }
@@ -179,14 +184,14 @@ fn release(l: [Invocation; MOST_INVOCATIONS], id: u32, kind: u32, problem: u32) 
 }
 
 // U-REJECT or R-REJECT, by who sends the problem.
+#[tactic(auto, unfolding(paper::specs::Invocations::reject_kind, laws::specs::If::if_eq))]
 fn reject_kind(problem: u32) -> u32
     ensures is { result ≡ reject_kind problem }
     ensures low { result < row_rejected }
 {
-    if reading_problems::sender(problem / 256, problem % 256) == 1 {
-        ROW_USER_REJECT
-    } else {
-        ROW_REMOTE_REJECT
+    match reading_problems::sender(problem / 256, problem % 256) {
+        Some(Party::User) => ROW_USER_REJECT,
+        _ => ROW_REMOTE_REJECT,
     }
 }
 
@@ -203,6 +208,7 @@ fn reject(l: [Invocation; MOST_INVOCATIONS], id: u32, problem: u32) -> Told
     }
 }
 
+#[tactic(auto, unfolding(paper::specs::Invocations::is_answer, laws::specs::If::if_eq))]
 fn is_answer(tag: u8) -> bool
     ensures { result ≡ is_answer tag }
 {

@@ -1,4 +1,4 @@
-use Rattle.std.proofs.Common.{refl, sym, ap, ◌∙◌, List, arith}
+use Rattle.std.proofs.Common.{refl, ap, ◌∙◌, List}
 use Rattle.laws.specs.If.{eq, ne}
 use Rattle.paper.specs.declared.Invocation.{Invocation}
 use Rattle.paper.specs.Invocations.{answers, rejected, invocation_of}

@@ -1,5 +1,4 @@
-use Rattle.std.proofs.Common.{ap, ◌∙◌, sym, ℕ, arith}
-use Rattle.dialogue_acts.specs.declared.Taken.{Taken}
+use Rattle.std.proofs.Common.{ap}
 use Rattle.dialogue_acts.specs.Told.{taken, sent-rejected, sent-shown, sent-waits}
 use Rattle.dialogue_acts.proofs.answer_sent.Goals as goal
 

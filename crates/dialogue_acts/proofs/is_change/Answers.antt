@@ -1,7 +1,6 @@
-use Rattle.std.proofs.Common.{◌≡◌, sym, ◌∙◌, true, false, Bool, ℕ, Option, Some, None, refl}
+use Rattle.std.proofs.Common.{◌≡◌, sym, ◌∙◌, false, Option, Some, None, refl}
 use Rattle.std.specs.Option.{is_some}
 use Rattle.laws.specs.If.{true-false}
-use Rattle.paper.specs.declared.Invocation.{Invocation}
 use Rattle.dialogue_acts.specs.Told.{told-nothing}
 use Rattle.dialogue_acts.proofs.is_change.Goals as goal
 
