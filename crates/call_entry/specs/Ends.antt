@@ -1,10 +1,12 @@
 -- THE END OF A CALL: from what a request is refused by, or does, to the call's outcome. Assumes nothing.
-use Rattle.std.specs.Prelude.{◌≡◌, List, [], ◌∷◌, ℕ, zero, suc, ◌<◌, length}
+use Rattle.std.specs.Prelude.{◌≡◌, List, [], ◌∷◌, ℕ, zero, suc, ◌<◌, length, Result, IsErrAnd}
 use Rattle.std.proofs.Math.Path.{refl, sym, ap}
 use Rattle.std.proofs.Common.{◌∙◌, append-nil, arith}
 use Rattle.std.proofs.lemmas.List.Edits.{sets}
 use Rattle.laws.specs.If.{if_lt, if_b, lt, ge, eq, yes, no, by-lt, by-eq, by-b, was-ge}
 use Rattle.paper.specs.declared.Row.{Row}
+use Rattle.paper.specs.declared.Refusal.{Refusal}
+use Rattle.paper.specs.Refusals.{number}
 use Rattle.paper.specs.Rows.{row_octets, rows_octets}
 use Rattle.paper.specs.Dialogues.{Place, Request, Done, done, refusal, does, request, refused, unless_refused}
 use Rattle.paper.specs.Sizes.{services}
@@ -14,7 +16,8 @@ use Rattle.paper.specs.Layout.{encode, view}
 use Rattle.paper.specs.Outcome.{Lent, Spaces, outcome, standing, spaces_of, spaces_for, given}
 use Rattle.table_rules.specs.Checking.{table_answer, standing-check, standing-rows, standing-space}
 use Rattle.call_entry.specs.declared.Reply.{Reply}
-use Rattle.call_entry.specs.Replies.{reply, Told, lent_same, by-standing, by-refusal, by-step}
+use Rattle.call_entry.specs.declared.Effect.{Effect}
+use Rattle.call_entry.specs.Replies.{reply, above-zero, passed_up, Told, Ends, lent_same, by-standing, by-refusal, by-step}
 use Rattle.call_entry.specs.Prologue.{entry_of, entry_at, Within, within, InDialogue}
 
 -- the octets of the spaces that are lent
@@ -84,6 +87,10 @@ module _ (l : Lent) (s d : ℕ) (q : Request) where
       (λ y v. call-no l c s (requested T s d q) refl (within (sym z)) n (refuse 5 T) (sym (no _ _ _ y refl)) v h f))
       (λ z w. call-refused l c s (requested T s d q) refl n w h f)
 
+  -- passed up by a `?`
+  pub dialogue-entry : (r : Result Effect Refusal) (why : Refusal) → IsErrAnd r (λ e. e ≡ why) → number why ≡ entry_at l.table (has l) (spaces_of q) s d → Ends (outcome l (OnDialogue s d q)) r l
+  dialogue-entry r why h e = passed_up (λ r. Ends (outcome l (OnDialogue s d q)) r l) r why h (dialogue-refused (number why) e (above-zero why) refl)
+
   module _ (p : ℕ) (i : InDialogue l.table (has l) (spaces_of q) s d p) where
     did : (o : Done) → request d (place_at T p) q ≡ o → requested T s d q ≡ stored T p o
     unfolding requested
@@ -94,6 +101,9 @@ module _ (l : Lent) (s d : ℕ) (q : Request) where
     unfolding step stored
     dialogue-no n e h f =
         call-no l c s (requested T s d q) refl i.within n (stored T p (refused n (place_at T p))) (did (refused n (place_at T p)) (refused-by n d (place_at T p) q e h)) refl h f
+
+    pub dialogue-refusal : (r : Result Effect Refusal) (why : Refusal) → IsErrAnd r (λ e. e ≡ why) → number why ≡ refusal (place_at (view l.table) p) q → Ends (outcome l (OnDialogue s d q)) r l
+    dialogue-refusal r why h e = passed_up (λ r. Ends (outcome l (OnDialogue s d q)) r l) r why h (dialogue-no (number why) e (above-zero why) refl)
 
     -- done
     pub dialogue-done : (y : Place) (rs : List Row) (ms : List ℕ) → 0 ≡ refusal (place_at (view l.table) p) q → does d (place_at (view l.table) p) q ≡ done y rs ms

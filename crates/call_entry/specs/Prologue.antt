@@ -1,8 +1,11 @@
 -- THE PROLOGUE of a call: its number, and what stands where that is 0. Assumes nothing.
-use Rattle.std.specs.Prelude.{◌≡◌, Bool, true, false, List, ℕ, ◌<◌, ◌≤◌, get_or}
+use Rattle.std.specs.Prelude.{◌≡◌, Bool, true, false, List, ℕ, ◌<◌, ◌≤◌, get_or, Result, Ok, Err, IfOk}
 use Rattle.std.proofs.Math.Path.{refl, sym, ap, subst}
 use Rattle.std.proofs.Common.{◌∙◌, arith}
 use Rattle.laws.specs.If.{if_lt, if_eq, if_b, lt, ge, eq, ne, yes, no, was-lt, was-ge, by-eq}
+use Rattle.paper.specs.declared.Refusal.{Refusal}
+use Rattle.paper.specs.declared.Refusal.TheVariants.{NoDialogue}
+use Rattle.paper.specs.Refusals.{number, answer_of}
 use Rattle.paper.specs.Sizes.{places_in_all, services, place_of}
 use Rattle.paper.specs.Shares.{Resource, gives}
 use Rattle.paper.specs.Calls.{place_at, dialogues, may_begin, lowest_free, owns}
@@ -10,6 +13,7 @@ use Rattle.paper.specs.Layout.{flag, view}
 use Rattle.paper.specs.declared.Control.{Control}
 use Rattle.paper.specs.Outcome.{Spaces}
 use Rattle.call_entry.specs.declared.Spaces as given
+use Rattle.call_entry.specs.Replies.{above-zero}
 use Rattle.table_laws.specs.Fine.{FineControl, FinePlace}
 use Rattle.table_places.specs.Storing.{Storing}
 use Rattle.table_laws.specs.Ready.{Ready}
@@ -32,7 +36,7 @@ entry_of t lent least s =
 unfoldable pub entry_at : List ℕ → Spaces → Spaces → ℕ → ℕ → ℕ
 entry_at t lent least s d = if_eq (entry_of t lent least s) 0 (if_b (owns (view t) s d) 0 5) (entry_of t lent least s)
 
--- WHAT A 0 HANDS OVER
+-- WHAT IS HANDED OVER where nothing refuses
 pub record Within (t : List ℕ) (lent least : Spaces) (s : ℕ) : Type 0 where
   pub long : (least.rows ≤ lent.rows) × (least.space ≤ lent.space)
   pub stands : 0 ≡ table_answer t
@@ -67,23 +71,23 @@ pub record InDialogue (t : List ℕ) (lent least : Spaces) (s d p : ℕ) : Type 
   pub place : p ≡ place_of d
   pub used : Used t p
 
--- what the two prologues tell: the number, and whether the share rule gives a place; the number and the place
-pub record Enters (t : List ℕ) (lent least : Spaces) (s answer : ℕ) (given : Bool) : Type 0 where
-  pub is : answer ≡ entry_of t lent least s
-  pub inside : answer ≡ 0 → InService t lent least s
-  pub may : answer ≡ 0 → given ≡ may_begin (view t) s
+-- what the two prologues tell: the refusal's number, or whether the share rule gives a place; the number, or the place
+pub record Enters (t : List ℕ) (lent least : Spaces) (s : ℕ) (r : Result Bool Refusal) : Type 0 where
+  pub is : answer_of r ≡ entry_of t lent least s
+  pub inside : IfOk r (λ given. InService t lent least s)
+  pub may : IfOk r (λ given. given ≡ may_begin (view t) s)
 
-pub record Meets (t : List ℕ) (lent least : Spaces) (s d answer p : ℕ) : Type 0 where
-  pub is : answer ≡ entry_at t lent least s d
-  pub inside : answer ≡ 0 → InDialogue t lent least s d p
+pub record Meets (t : List ℕ) (lent least : Spaces) (s d : ℕ) (r : Result ℕ Refusal) : Type 0 where
+  pub is : answer_of r ≡ entry_at t lent least s d
+  pub inside : IfOk r (λ p. InDialogue t lent least s d p)
 
 -- the same least spaces by another name
-pub meets-as : {t : List ℕ} {lent n m : Spaces} {s d answer p : ℕ} → n ≡ m → Meets t lent n s d answer p → Meets t lent m s d answer p
-meets-as {t} {lent} {s = s} {d} {answer} {p} e w = subst (λ (k : Spaces). Meets t lent k s d answer p) e w
+pub meets-as : {t : List ℕ} {lent n m : Spaces} {s d : ℕ} {r : Result ℕ Refusal} → n ≡ m → Meets t lent n s d r → Meets t lent m s d r
+meets-as {t} {lent} {s = s} {d} {r} e w = subst (λ (k : Spaces). Meets t lent k s d r) e w
 
 module _ (t : List ℕ) (lent least : Spaces) (s : ℕ) where
-  pub enters-no : (n : ℕ) (m : Bool) → n ≡ entry_of t lent least s → 0 < n → Enters t lent least s n m
-  enters-no n m e h = record { is = e; inside = λ q. absurd (omega arith); may = λ q. absurd (omega arith) }
+  pub enters-no : (why : Refusal) → number why ≡ entry_of t lent least s → Enters t lent least s (Err why)
+  enters-no why e = record { is = e; inside = tt; may = tt }
 
   pub rows_few : lent.rows < least.rows → 1 ≡ entry_of t lent least s
   unfolding entry_of
@@ -105,42 +109,40 @@ module _ (t : List ℕ) (lent least : Spaces) (s : ℕ) where
 
       pub enters : (counts : List ℕ) (rest left : ℕ) → 0 ≡ table_answer t → Passed t counts rest left → s < services → (m : Bool) (count guarantee limit : ℕ)
           → count ≡ get_or counts s 0 → guarantee ≡ (dialogues (view t)).guarantee s → limit ≡ (dialogues (view t)).limit s
-          → ((R : Resource) (k : ℕ) → Told R k count guarantee limit rest left → m ≡ gives R k) → Enters t lent least s 0 m
+          → ((R : Resource) (k : ℕ) → Told R k count guarantee limit rest left → m ≡ gives R k) → Enters t lent least s (Ok m)
       unfolding entry_of may_begin
       enters counts rest left e f h m count guarantee limit i j c k =
           record {
             is = ge _ _ _ _ a (ge _ _ _ _ b (eq _ _ _ _ (sym e) (lt _ _ _ _ h refl)));
             inside =
-                λ q.
                 record {
                   ready = f.ready;
                   within = record { long = (a, b); stands = e; service = h };
                   there = λ y. let z = free-there (view t) f.ready.fine (gives-room (dialogues (view t)) f.sound s h y) in
                       (z, lowest-is-free (view t) f.ready.fine z);
                 };
-            may = λ q. k (dialogues (view t)) s
+            may = k (dialogues (view t)) s
                 (record { service = h; counted = i ∙ f.counted s h; guaranteed = j; limited = c; kept = f.kept; remain = f.remain });
           }
 
 module _ (t : List ℕ) (lent least : Spaces) (s d : ℕ) where
-  pub meets-not : (n : ℕ) (m : Bool) (p : ℕ) → Enters t lent least s n m → 0 < n → Meets t lent least s d n p
+  pub meets-not : (why : Refusal) → Enters t lent least s (Err why) → Meets t lent least s d (Err why)
   unfolding entry_at
-  meets-not n m p i h = record { is = ne _ _ _ _ (λ q. omega (arith, i.is, q)) i.is; inside = λ q. absurd (omega arith) }
+  meets-not why i = record { is = ne _ _ _ _ (λ q. omega (arith, i.is, above-zero why, q)) i.is; inside = tt }
 
-  module _ (m : Bool) (i : Enters t lent least s 0 m) where
-    pub meets-none : (p : ℕ) → false ≡ owns (view t) s d → Meets t lent least s d 5 p
+  module _ (m : Bool) (i : Enters t lent least s (Ok m)) where
+    pub meets-none : false ≡ owns (view t) s d → Meets t lent least s d (Err NoDialogue)
     unfolding entry_at
-    meets-none p w = record { is = eq _ _ _ _ (sym i.is) (no _ _ _ (sym w) refl); inside = λ q. absurd (omega arith) }
+    meets-none w = record { is = eq _ _ _ _ (sym i.is) (no _ _ _ (sym w) refl); inside = tt }
 
-    pub meets : true ≡ owns (view t) s d → (p : ℕ) → p ≡ place_of d → Meets t lent least s d 0 p
+    pub meets : true ≡ owns (view t) s d → (p : ℕ) → p ≡ place_of d → Meets t lent least s d (Ok p)
     unfolding entry_at
     meets w p e =
-        let j = i.inside refl in
+        let j = i.inside in
         let o = owned-is (view t) s d (sym w) in
         record {
           is = eq _ _ _ _ (sym i.is) (yes _ _ _ (sym w) refl);
           inside =
-              λ q.
               record {
                 within = j.within;
                 owner = sym w;

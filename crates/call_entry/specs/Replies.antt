@@ -1,18 +1,52 @@
 -- THE REPLY of a call, and how an outcome is shown by it. Assumes nothing.
-use Rattle.std.specs.Prelude.{◌≡◌, List, [], ℕ, zero, suc, ◌<◌}
-use Rattle.std.proofs.Math.Path.{refl, ap}
+use Rattle.std.specs.Prelude.{◌≡◌, List, [], ℕ, zero, suc, ◌<◌, Result, Ok, Err, IsErrAnd}
+use Rattle.std.proofs.Math.Path.{refl, ap, subst}
 use Rattle.std.proofs.Common.{sym, ◌∙◌, arith}
 use Rattle.laws.specs.If.{eq, ne}
+use Rattle.paper.specs.declared.Refusal.{Refusal}
+use Rattle.paper.specs.declared.Refusal.TheVariants.{WrongSize, BrokenTable, NoService, MessageSize, NoDialogue, WrongState, NoPlace, WrongCode, WrongInvocation, InvocationsFull, WrongOctets, TooLong, WrongShares, WrongPortion}
+use Rattle.paper.specs.Refusals.{number}
 use Rattle.paper.specs.Calls.{Call, Out, step}
 use Rattle.paper.specs.Layout.{view}
 use Rattle.paper.specs.Outcome.{Lent, Outcome, Gives, outcome, standing, spaces_for, shown, given, refused_by}
 use Rattle.call_entry.specs.declared.Reply.{Reply}
+use Rattle.call_entry.specs.declared.Effect.{Effect}
 
 abbrev pub reply : ℕ → ℕ → ℕ → ℕ → Reply
 reply answer rows length dialogue = record { answer = answer; rows = rows; length = length; dialogue = dialogue }
 
+-- a call's result, as the host is told it: all numbers but a refusal's are 0
+abbrev pub reply_of : Result Effect Refusal → Reply
+reply_of (Ok did) = reply 0 did.rows did.length did.dialogue
+reply_of (Err why) = reply (number why) 0 0 0
+
+pub above-zero : (why : Refusal) → 0 < number why
+above-zero WrongSize = omega arith
+above-zero BrokenTable = omega arith
+above-zero NoService = omega arith
+above-zero MessageSize = omega arith
+above-zero NoDialogue = omega arith
+above-zero WrongState = omega arith
+above-zero NoPlace = omega arith
+above-zero WrongCode = omega arith
+above-zero WrongInvocation = omega arith
+above-zero InvocationsFull = omega arith
+above-zero WrongOctets = omega arith
+above-zero TooLong = omega arith
+above-zero WrongShares = omega arith
+above-zero WrongPortion = omega arith
+
 abbrev pub Told : Outcome → Reply → Lent → Type 0
 Told o r l = Gives o r.answer r.rows r.length r.dialogue l
+
+-- a refusal that a `?` passes up
+pub passed_up : {T : Type 0} (P : Result T Refusal → Type 0) (r : Result T Refusal) (why : Refusal) → IsErrAnd r (λ e. e ≡ why) → P (Err why) → P r
+passed_up P (Ok x) why h g = absurd h
+passed_up P (Err e) why h g = subst (λ (e : Refusal). P (Err e)) (sym h) g
+
+-- what a call's result says of its outcome; so does its reply then, for every call
+abbrev pub Ends : Outcome → Result Effect Refusal → Lent → Type 0
+Ends o r l = Told o (reply_of r) l
 
 pub told : {o q : Outcome} {r : Reply} {l : Lent} → q ≡ o → r ≡ reply o.answer o.rows o.length o.dialogue → l ≡ o.lent → Told q r l
 told {o} {q} {r} e d f = record {

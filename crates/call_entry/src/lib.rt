@@ -3,10 +3,10 @@
 
 ghost use Rattle.std.specs.Prelude.{◌≡◌};
 ghost use Rattle.paper.specs.Sizes.{octet_of};
-ghost use Rattle.call_entry.specs.Replies.{reply};
+ghost use Rattle.call_entry.specs.Replies.{reply, reply_of};
 ghost use Rattle.call_entry.specs.Prologue.{spaces, Enters, Meets};
 
-use paper::{GUARANTEES, LEAST_ROWS, LEAST_SPACE, LIMITS, PLACES, SERVICES, TURNS};
+use paper::{GUARANTEES, LEAST_ROWS, LEAST_SPACE, LIMITS, PLACES, Refusal, SERVICES, TURNS};
 
 // What the host is told (docs, "The interface to the C host"): at any answer but 0 the other three are 0.
 #[repr(C)]
@@ -16,6 +16,28 @@ pub struct Reply {
     pub rows: u32,
     pub length: u32,
     pub dialogue: u32,
+}
+
+// What a call did that wasn't refused: so many rows, a message of so many octets, the dialogue that it opened.
+#[derive(Clone, Copy)]
+pub struct Effect {
+    pub rows: u32,
+    pub length: u32,
+    pub dialogue: u32,
+}
+
+impl Effect {
+    pub const NONE: Effect = Effect {
+        rows: 0,
+        length: 0,
+        dialogue: 0,
+    };
+
+    pub const ONE_ROW: Effect = Effect {
+        rows: 1,
+        length: 0,
+        dialogue: 0,
+    };
 }
 
 // A refusal.
@@ -30,15 +52,26 @@ pub fn refused(number: u32) -> Reply
     }
 }
 
-// Done: so many rows, and a message of so many octets.
-pub fn done(rows: u32, length: u32) -> Reply
-    ensures { result ≡ reply 0 rows length 0 }
+// What was done.
+pub fn done(did: Effect) -> Reply
+    ensures { result ≡ reply 0 did.rows did.length did.dialogue }
 {
     Reply {
         answer: 0,
-        rows: rows,
-        length: length,
-        dialogue: 0,
+        rows: did.rows,
+        length: did.length,
+        dialogue: did.dialogue,
+    }
+}
+
+impl From<Result<Effect, Refusal>> for Reply {
+    ghost from_gives = { λ r told. told ≡ reply_of r };
+
+    fn from(r: Result<Effect, Refusal>) -> Reply {
+        match r {
+            Ok(did) => done(did),
+            Err(why) => refused(u32::from(why)),
+        }
     }
 }
 
@@ -46,10 +79,7 @@ pub fn done(rows: u32, length: u32) -> Reply
 pub fn octet_of(id: i8) -> u8
     ensures { result ≡ octet_of id }
 {
-    if id < 0 {
-        return ((id as i16) + 256) as u8;
-    }
-    return id as u8;
+    id.cast_unsigned()
 }
 
 // Octets of row space and of message space: those lent to a call, or the least that it takes, 0 where it takes none.
@@ -59,59 +89,36 @@ pub struct Spaces {
     pub space: usize,
 }
 
-pub const NO_SPACE: Spaces = Spaces { rows: 0, space: 0 };
+impl Spaces {
+    pub const NONE: Spaces = Spaces { rows: 0, space: 0 };
 
-pub const ROW_SPACE: Spaces = Spaces {
-    rows: LEAST_ROWS,
-    space: 0,
-};
+    pub const ROWS: Spaces = Spaces {
+        rows: LEAST_ROWS,
+        space: 0,
+    };
 
-pub const MESSAGE_SPACE: Spaces = Spaces {
-    rows: 0,
-    space: LEAST_SPACE,
-};
+    pub const MESSAGE: Spaces = Spaces {
+        rows: 0,
+        space: LEAST_SPACE,
+    };
 
-pub const BOTH_SPACES: Spaces = Spaces {
-    rows: LEAST_ROWS,
-    space: LEAST_SPACE,
-};
-
-#[derive(Clone, Copy)]
-pub struct Entered {
-    pub answer: u32,
-    pub may: bool,
+    pub const BOTH: Spaces = Spaces {
+        rows: LEAST_ROWS,
+        space: LEAST_SPACE,
+    };
 }
 
-// The prologue of every call: 1, 2, 3 or 0, and whether the share rule gives the service a place.
-pub fn enter(t: &[u8], lent: Spaces, least: Spaces, service: u32) -> Entered
-    ensures { Enters t.now (spaces lent) (spaces least) service result.answer result.may }
+// The prologue of every call: refused by 1, 2 or 3, or whether the share rule gives the service a place.
+pub fn enter(t: &[u8], lent: Spaces, least: Spaces, service: u32) -> Result<bool, Refusal>
+    ensures { Enters t.now (spaces lent) (spaces least) service result }
 {
-    if lent.rows < least.rows {
-        return Entered {
-            answer: 1,
-            may: false,
-        };
+    if lent.rows < least.rows || lent.space < least.space {
+        return Err(Refusal::WrongSize);
     }
-    if lent.space < least.space {
-        return Entered {
-            answer: 1,
-            may: false,
-        };
-    }
-    let c = table_rules::check(t);
-    let answer = c.answer;
-    if answer != 0 {
-        return Entered {
-            answer: answer,
-            may: false,
-        };
-    }
+    let c = table_rules::check(t)?;
     let i = service as usize;
     if i >= SERVICES {
-        return Entered {
-            answer: 3,
-            may: false,
-        };
+        return Err(Refusal::NoService);
     }
     let counts = c.counts;
     let count = laws::number(counts[i]);
@@ -119,39 +126,23 @@ pub fn enter(t: &[u8], lent: Spaces, least: Spaces, service: u32) -> Entered
     let guarantee = share.guarantee;
     let limit = share.limit;
     let may = table_shares::gives_place(count, guarantee, limit, c.unused, c.free);
-    return Entered {
-        answer: 0,
-        may: may,
-    };
+    Ok(may)
 }
 
-#[derive(Clone, Copy)]
-pub struct Met {
-    pub answer: u32,
-    pub place: usize,
-}
-
-// The prologue of a call on a dialogue: 5 too, and the dialogue's place.
-pub fn enter_at(t: &[u8], lent: Spaces, least: Spaces, service: u32, dialogue: u32) -> Met
-    ensures { Meets t.now (spaces lent) (spaces least) service dialogue result.answer result.place }
+// The prologue of a call on a dialogue: refused by 5 too, or the dialogue's place.
+pub fn enter_at(
+    t: &[u8],
+    lent: Spaces,
+    least: Spaces,
+    service: u32,
+    dialogue: u32,
+) -> Result<usize, Refusal>
+    ensures { Meets t.now (spaces lent) (spaces least) service dialogue result }
 {
-    let e = enter(t, lent, least, service);
-    let answer = e.answer;
-    if answer != 0 {
-        return Met {
-            answer: answer,
-            place: 0,
-        };
+    enter(t, lent, least, service)?;
+    if !table_places::owner(t, service, dialogue) {
+        return Err(Refusal::NoDialogue);
     }
-    if table_places::owner(t, service, dialogue) {
-        let p = (dialogue / TURNS) as usize;
-        return Met {
-            answer: 0,
-            place: p,
-        };
-    }
-    return Met {
-        answer: 5,
-        place: 0,
-    };
+    let p = (dialogue / TURNS) as usize;
+    Ok(p)
 }

@@ -1,9 +1,12 @@
 -- An invocation that goes to Idle, as a timer or a cancel asks (01, "Invocation states"). Assumes nothing.
-use Rattle.std.specs.Prelude.{◌≡◌, List, [], ◌∷◌, ℕ, ◌<◌, get_or}
+use Rattle.std.specs.Prelude.{◌≡◌, List, [], ◌∷◌, ℕ, ◌<◌, get_or, Result, Ok, Err, OnOk, OnErr}
 use Rattle.std.proofs.Math.Path.{refl, sym, ap, subst}
 use Rattle.std.proofs.Common.{◌∙◌, arith}
 use Rattle.laws.specs.If.{eq, ne}
 use Rattle.paper.specs.declared.Control.{Control}
+use Rattle.paper.specs.declared.Refusal.{Refusal}
+use Rattle.paper.specs.declared.Refusal.TheVariants.{WrongInvocation}
+use Rattle.paper.specs.Refusals.{answer_of}
 use Rattle.paper.specs.Invocations.{sent, wait, no_invocation, slot_of, invocation_of, state_of, to_idle}
 use Rattle.paper.specs.Rows.{cancel_row}
 use Rattle.paper.specs.Dialogues.{Place, Request, with_control, needs, refusal, does, done, timeout_rows}
@@ -45,11 +48,11 @@ module _ (id : ℕ) where
   idling-does User me x = refl
   idling-does RejectTimer me x = refl
 
--- 0, or 9 and nothing changed
-pub record Idled (t : List ℕ) (p id state r : ℕ) (u : List ℕ) : Type 0 where
-  pub is : r ≡ needs (place_at (view t) p) id state
-  pub same : (r ≡ 0 → ⊥) → u ≡ t
-  pub changed : r ≡ 0 → u ≡ encode (with_place (view t) p (with_control (place_at (view t) p) (to_idle (place_at (view t) p).control id)))
+-- done, or 9 and nothing changed
+pub record Idled (t : List ℕ) (p id state : ℕ) (r : Result (Unit {0}) Refusal) (u : List ℕ) : Type 0 where
+  pub is : answer_of r ≡ needs (place_at (view t) p) id state
+  pub same : OnErr r (u ≡ t)
+  pub changed : OnOk r (u ≡ encode (with_place (view t) p (with_control (place_at (view t) p) (to_idle (place_at (view t) p).control id))))
 
 module _ (t : List ℕ) (p id : ℕ) (c : Control) (e : c ≡ (place_at (view t) p).control) where
   -- our invocation of that ID, found by its slot
@@ -64,16 +67,16 @@ module _ (t : List ℕ) (p id : ℕ) (c : Control) (e : c ≡ (place_at (view t)
       subst (Storing 0 t p) (sym (f ∙ ap (λ (k : Control). to_idle k id) e)) (used-storing u (to-idle-fine x u.fine.control id) u.state)
 
   module _ (state i n : ℕ) (a : i ≡ slot_of c.invocations id) (b : n ≡ (get_or c.invocations i no_invocation).state) where
-    pub not-idled : (n ≡ state → ⊥) → Idled t p id state 9 t
+    pub not-idled : (n ≡ state → ⊥) → Idled t p id state (Err WrongInvocation) t
     unfolding needs
-    not-idled m = record { is = ne _ _ _ _ (λ q. m (found i n a b ∙ q)) refl; same = λ q. refl; changed = λ q. absurd (omega arith) }
+    not-idled m = record { is = ne _ _ _ _ (λ q. m (found i n a b ∙ q)) refl; same = refl; changed = tt }
 
-    pub idled : n ≡ state → (d : Control) → d ≡ to_idle c id → (u : List ℕ) → u ≡ encode (with_place (view t) p (with_control (place_at (view t) p) d)) → Idled t p id state 0 u
+    pub idled : n ≡ state → (d : Control) → d ≡ to_idle c id → (u : List ℕ) → u ≡ encode (with_place (view t) p (with_control (place_at (view t) p) d)) → Idled t p id state (Ok tt) u
     unfolding needs
     idled m d f u g = record {
       is = eq _ _ _ _ (sym (found i n a b) ∙ m) refl;
-      same = λ q. absurd (q refl);
-      changed = λ q. g ∙ ap (λ (k : Control). encode (with_place (view t) p (with_control (place_at (view t) p) k))) (f ∙ ap (λ (k : Control). to_idle k id) e);
+      same = tt;
+      changed = g ∙ ap (λ (k : Control). encode (with_place (view t) p (with_control (place_at (view t) p) k))) (f ∙ ap (λ (k : Control). to_idle k id) e);
     }
 
 -- "Timeout gives L-CANCEL but in class 4."

@@ -8,14 +8,15 @@ ghost use Rattle.paper.specs.Calls.{place_at};
 ghost use Rattle.paper.specs.Calls.Call.{OnDialogue};
 ghost use Rattle.paper.specs.Layout.{view};
 ghost use Rattle.paper.specs.Outcome.{Gives, outcome};
+ghost use Rattle.call_entry.specs.Replies.{Ends, only, with_rows};
 ghost use Rattle.call_entry.specs.Prologue.{Used};
 ghost use Rattle.call_release.specs.Idling.{from_state, idling, Idled};
 
-use call_entry::{NO_SPACE, ROW_SPACE, Reply, Spaces};
-use paper::{DIALOGUE_SENT, NO_PROBLEM, ROW_ABORT, Run, SENT, WAIT};
+use call_entry::{Effect, Reply, Spaces};
+use paper::{DIALOGUE_SENT, NO_PROBLEM, ROW_ABORT, Refusal, Run, SENT, WAIT};
 
-// Our invocation of that ID goes from that state to Idle: 0, or 9 and nothing changes.
-fn idle_from(t: &mut [u8], p: usize, id: u8, state: u8) -> u32
+// Our invocation of that ID goes from that state to Idle, or nothing changes.
+fn idle_from(t: &mut [u8], p: usize, id: u8, state: u8) -> Result<(), Refusal>
     requires { Used t.old p × (0 < state) }
     ensures { Idled t.old p id state result t.new }
 {
@@ -24,11 +25,11 @@ fn idle_from(t: &mut [u8], p: usize, id: u8, state: u8) -> u32
     let i = dialogue_invocations::slot_of(l, id as u32);
     let n = dialogue_invocations::state_at(l, i);
     if n != state {
-        return 9;
+        return Err(Refusal::WrongInvocation);
     }
     let d = dialogue_invocations::to_idle(c, id as u32, i);
     table_places::store_control(t, p, d);
-    return 0;
+    Ok(())
 }
 
 // The class of our invocation of that ID.
@@ -37,8 +38,7 @@ fn class_of(t: &[u8], p: usize, id: u8) -> u8
     ensures { result ≡ (invocation_of (place_at (view t.now) p).control.invocations id).class }
 {
     let c = table_places::load(t, p);
-    let l = c.invocations;
-    let v = dialogue_invocations::invocation_of(l, id as u32);
+    let v = dialogue_invocations::invocation_of(c.invocations, id as u32);
     v.class
 }
 
@@ -59,87 +59,100 @@ fn from_state(by: Idler) -> u8
     }
 }
 
-pub fn idle(table: &mut [u8], service: u32, dialogue: u32, id: u8, by: Idler) -> Reply
-    ensures { Gives (outcome (record { table = table.entry.now; rows = []; space = [] }) (OnDialogue service dialogue (idling by id))) result.answer result.rows result.length result.dialogue (record { table = table.exit.now; rows = []; space = [] }) }
+fn try_idle(
+    table: &mut [u8],
+    service: u32,
+    dialogue: u32,
+    id: u8,
+    by: Idler,
+) -> Result<Effect, Refusal>
+    ensures { Ends (outcome (only table.old) (OnDialogue service dialogue (idling by id))) result (only table.new) }
 {
-    let m = call_entry::enter_at(table, NO_SPACE, NO_SPACE, service, dialogue);
-    let answer = m.answer;
-    if answer != 0 {
-        return call_entry::refused(answer);
-    }
+    let p = call_entry::enter_at(table, Spaces::NONE, Spaces::NONE, service, dialogue)?;
     let from = from_state(by);
-    let why = idle_from(table, m.place, id, from);
-    if why != 0 {
-        return call_entry::refused(why);
-    }
-    return call_entry::done(0, 0);
+    idle_from(table, p, id, from)?;
+    Ok(Effect::NONE)
+}
+
+pub fn idle(table: &mut [u8], service: u32, dialogue: u32, id: u8, by: Idler) -> Reply
+    ensures { Gives (outcome (record { table = table.old; rows = []; space = [] }) (OnDialogue service dialogue (idling by id))) result.answer result.rows result.length result.dialogue (record { table = table.new; rows = []; space = [] }) }
+{
+    Reply::from(try_idle(table, service, dialogue, id, by))
 }
 
 // "Timeout gives L-CANCEL but in class 4."
-pub fn timeout(table: &mut [u8], service: u32, dialogue: u32, id: u8, rows: &mut [u8]) -> Reply
-    ensures { Gives (outcome (record { table = table.entry.now; rows = rows.old; space = [] }) (OnDialogue service dialogue (Timeout id))) result.answer result.rows result.length result.dialogue (record { table = table.exit.now; rows = rows.new; space = [] }) }
+fn try_timeout(
+    table: &mut [u8],
+    service: u32,
+    dialogue: u32,
+    id: u8,
+    rows: &mut [u8],
+) -> Result<Effect, Refusal>
+    ensures { Ends (outcome (with_rows table.old rows.old) (OnDialogue service dialogue (Timeout id))) result (with_rows table.new rows.new) }
 {
     let lent = Spaces {
         rows: rows.len(),
         space: 0,
     };
-    let m = call_entry::enter_at(table, lent, ROW_SPACE, service, dialogue);
-    let answer = m.answer;
-    if answer != 0 {
-        return call_entry::refused(answer);
-    }
-    let p = m.place;
+    let p = call_entry::enter_at(table, lent, Spaces::ROWS, service, dialogue)?;
     let class = class_of(table, p, id);
-    let n = idle_from(table, p, id, SENT);
-    if n != 0 {
-        return call_entry::refused(n);
-    }
+    idle_from(table, p, id, SENT)?;
     if class == 4 {
-        return call_entry::done(0, 0);
+        return Ok(Effect::NONE);
     }
     let row = writing_rows::cancel_row(dialogue, id);
     writing_rows::write_row(rows, 0, row);
-    return call_entry::done(1, 0);
+    Ok(Effect::ONE_ROW)
+}
+
+pub fn timeout(table: &mut [u8], service: u32, dialogue: u32, id: u8, rows: &mut [u8]) -> Reply
+    ensures { Gives (outcome (record { table = table.old; rows = rows.old; space = [] }) (OnDialogue service dialogue (Timeout id))) result.answer result.rows result.length result.dialogue (record { table = table.new; rows = rows.new; space = [] }) }
+{
+    Reply::from(try_timeout(table, service, dialogue, id, rows))
 }
 
 // "No-reaction timer: Sent only, frees, P-ABORT row without cause."
-pub fn no_reaction(table: &mut [u8], service: u32, dialogue: u32, rows: &mut [u8]) -> Reply
-    ensures { Gives (outcome (record { table = table.entry.now; rows = rows.old; space = [] }) (OnDialogue service dialogue NoReaction)) result.answer result.rows result.length result.dialogue (record { table = table.exit.now; rows = rows.new; space = [] }) }
+fn try_no_reaction(
+    table: &mut [u8],
+    service: u32,
+    dialogue: u32,
+    rows: &mut [u8],
+) -> Result<Effect, Refusal>
+    ensures { Ends (outcome (with_rows table.old rows.old) (OnDialogue service dialogue NoReaction)) result (with_rows table.new rows.new) }
 {
     let lent = Spaces {
         rows: rows.len(),
         space: 0,
     };
-    let m = call_entry::enter_at(table, lent, ROW_SPACE, service, dialogue);
-    let answer = m.answer;
-    if answer != 0 {
-        return call_entry::refused(answer);
-    }
-    let p = m.place;
+    let p = call_entry::enter_at(table, lent, Spaces::ROWS, service, dialogue)?;
     let c = table_places::load(table, p);
     let state = c.state;
     if state != DIALOGUE_SENT {
-        return call_entry::refused(6);
+        return Err(Refusal::WrongState);
     }
     table_places::free_at(table, p);
-    let none = Run {
-        start: 0,
-        length: 0,
-    };
-    let row = writing_rows::dialogue_row(ROW_ABORT, dialogue, NO_PROBLEM, none, 0);
+    let row = writing_rows::dialogue_row(ROW_ABORT, dialogue, NO_PROBLEM, Run::NONE, 0);
     writing_rows::write_row(rows, 0, row);
-    return call_entry::done(1, 0);
+    Ok(Effect::ONE_ROW)
+}
+
+pub fn no_reaction(table: &mut [u8], service: u32, dialogue: u32, rows: &mut [u8]) -> Reply
+    ensures { Gives (outcome (record { table = table.old; rows = rows.old; space = [] }) (OnDialogue service dialogue NoReaction)) result.answer result.rows result.length result.dialogue (record { table = table.new; rows = rows.new; space = [] }) }
+{
+    Reply::from(try_no_reaction(table, service, dialogue, rows))
 }
 
 // "Prearranged end and user abort (both free): any".
-pub fn end_prearranged(table: &mut [u8], service: u32, dialogue: u32) -> Reply
-    ensures { Gives (outcome (record { table = table.entry.now; rows = []; space = [] }) (OnDialogue service dialogue Prearranged)) result.answer result.rows result.length result.dialogue (record { table = table.exit.now; rows = []; space = [] }) }
+fn try_end_prearranged(table: &mut [u8], service: u32, dialogue: u32) -> Result<Effect, Refusal>
+    ensures { Ends (outcome (only table.old) (OnDialogue service dialogue Prearranged)) result (only table.new) }
 {
-    let m = call_entry::enter_at(table, NO_SPACE, NO_SPACE, service, dialogue);
-    let answer = m.answer;
-    if answer != 0 {
-        return call_entry::refused(answer);
-    }
-    table_places::free_at(table, m.place);
-    return call_entry::done(0, 0);
+    let place = call_entry::enter_at(table, Spaces::NONE, Spaces::NONE, service, dialogue)?;
+    table_places::free_at(table, place);
+    Ok(Effect::NONE)
+}
+
+pub fn end_prearranged(table: &mut [u8], service: u32, dialogue: u32) -> Reply
+    ensures { Gives (outcome (record { table = table.old; rows = []; space = [] }) (OnDialogue service dialogue Prearranged)) result.answer result.rows result.length result.dialogue (record { table = table.new; rows = []; space = [] }) }
+{
+    Reply::from(try_end_prearranged(table, service, dialogue))
 }

@@ -16,6 +16,7 @@ pub const NO_INVOCATION: Invocation = Invocation {
     shown: 0,
 };
 
+#[tactic(auto, unfolding(paper::specs::Invocations::is_idle))]
 fn is_idle(v: Invocation) -> bool
     ensures { result ≡ is_idle v }
 {
@@ -23,6 +24,7 @@ fn is_idle(v: Invocation) -> bool
 }
 
 // In use, with that ID.
+#[tactic(auto, unfolding(paper::specs::Invocations::is_open, laws::specs::If::if_eq))]
 fn is_open(id: u32, v: Invocation) -> bool
     ensures { result ≡ is_open id v }
 {
@@ -68,6 +70,7 @@ pub fn invocation_at(l: [Invocation; MOST_INVOCATIONS], slot: Option<usize>) -> 
 }
 
 // Our invocation of an ID; in Idle where it is not in use.
+#[tactic(auto, unfolding(paper::specs::Invocations::invocation_of))]
 pub fn invocation_of(l: [Invocation; MOST_INVOCATIONS], id: u32) -> Invocation
     ensures { result ≡ invocation_of l id }
 {
@@ -90,6 +93,7 @@ pub fn put_invocation(mut c: Control, i: usize, v: Invocation) -> Control
 }
 
 // EVERY WAY TO IDLE: the invocation of an ID, in slot i.
+#[tactic(auto, unfolding(paper::specs::Invocations::to_idle))]
 pub fn to_idle(c: Control, id: u32, i: usize) -> Control
     requires { (i < most_invocations) × (i ≡ slot_of c.invocations id) }
     ensures { result ≡ to_idle c id }
@@ -108,6 +112,7 @@ pub fn release(c: Control, id: u32) -> Control
 }
 
 // Whether the user may reject with a problem of that kind.
+#[tactic(auto, unfolding(paper::specs::Invocations::may_reject, laws::specs::If::if_eq))]
 pub fn may_reject(kind: u32, v: Invocation) -> bool
     ensures { result ≡ may_reject kind v }
 {
@@ -115,6 +120,7 @@ pub fn may_reject(kind: u32, v: Invocation) -> bool
 }
 
 // Pending to Sent.
+#[tactic(auto, unfolding(paper::specs::Invocations::transmitted, laws::specs::If::if_eq))]
 fn transmit(v: Invocation) -> Invocation
     ensures { result ≡ transmitted v }
 {

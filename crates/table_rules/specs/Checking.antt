@@ -1,5 +1,5 @@
 -- WHAT THE CHECK TELLS: the answers 1 and 2, and what one pass counted. Assumes nothing.
-use Rattle.std.specs.Prelude.{◌≡◌, Bool, List, [], ◌∷◌, ℕ, zero, suc, ◌+◌, ◌*◌, ◌-◌, ◌/◌, ◌%◌, ◌<◌, ◌≤◌, eqb, length, take, drop}
+use Rattle.std.specs.Prelude.{◌≡◌, Bool, List, [], ◌∷◌, ℕ, zero, suc, ◌+◌, ◌*◌, ◌-◌, ◌/◌, ◌%◌, ◌<◌, ◌≤◌, eqb, length, take, drop, Result, Ok, Err, IfOk}
 use Rattle.std.proofs.Math.Path.{refl, sym, ap}
 use Rattle.std.proofs.Common.{subst, ◌∙◌, arith, eqb-true, length-take-le}
 use Rattle.std.proofs.Math.Bool.{true, false}
@@ -8,6 +8,8 @@ use Rattle.std.proofs.Math.ListN.{get_or}
 use Rattle.laws.specs.If.{if_eq, if_b, all, all-at, all_of, lt, ge, eq, ne, yes, no, by-eq, true-false}
 use Rattle.laws.specs.Digits.{digits, octet_digits, count, octet_digits-length, map-digit}
 use Rattle.laws.specs.Sums.{sum, sum-ext, sum_by}
+use Rattle.paper.specs.declared.Refusal.{Refusal}
+use Rattle.paper.specs.Refusals.{number, answer_of}
 use Rattle.paper.specs.Sizes.{places_in_all, services}
 use Rattle.paper.specs.Shares.{all_unused, free, shares_kept}
 use Rattle.paper.specs.Dialogues.{Place, empty_place}
@@ -25,6 +27,7 @@ use Rattle.table_laws.proofs.Ready.{ready, rules-walk}
 use Rattle.table_laws.proofs.Counts.{places-all, walk-count}
 use Rattle.table_shares.specs.Share.{Sound, kept-sound}
 use Rattle.table_shares.specs.Telling.{Parted}
+use Rattle.table_rules.specs.declared.Checked.{Checked}
 use Rattle.table_rules.specs.Kinds.{seen_bit, slot_seen, seen-free, seen-used, seen-kept, kept_seen}
 use Rattle.table_rules.specs.Tally.{tallies, tally-held}
 
@@ -46,9 +49,9 @@ pub record Passed (t counts : List ℕ) (rest left : ℕ) : Type 0 where
   pub remain : left ≡ free (dialogues (view t))
   pub sound : Sound (dialogues (view t))
 
-pub record CheckTold (t : List ℕ) (answer : ℕ) (counts : List ℕ) (rest left : ℕ) : Type 0 where
-  pub is : answer ≡ table_answer t
-  pub fine : answer ≡ 0 → Passed t counts rest left
+pub record CheckTold (t : List ℕ) (r : Result Checked Refusal) : Type 0 where
+  pub is : answer_of r ≡ table_answer t
+  pub fine : IfOk r (λ c. Passed t c.counts c.unused c.free)
 
 -- ---- THE MAP by its number of bits: where no used place's bit is set, as many are set as places are free only where they are the free ones'
 few-set : (a : List ℕ) (ps : List Place) → length a ≡ length ps → ((i : ℕ) → i < length ps → get_or a i 0 ≤ flag (get_or ps i (empty_place 0))) → count a ≤ sum_by flag ps
@@ -88,8 +91,8 @@ module _ (t : List ℕ) where
   unfolding table_answer
   check-size n = ne _ _ _ _ n refl
 
-  pub check-refused : (answer n : ℕ) (counts : List ℕ) (rest left : ℕ) → answer ≡ n → 0 < n → n ≡ table_answer t → CheckTold t answer counts rest left
-  check-refused answer n counts rest left e h q = record { is = e ∙ q; fine = λ z. absurd (omega arith) }
+  pub check-refused : (why : Refusal) → number why ≡ table_answer t → CheckTold t (Err why)
+  check-refused why e = record { is = e; fine = tt }
 
   module _ (o : Octets t) (e : length t ≡ table_size) where
     -- by its own bit or by the one seen, a place that breaks a rule is found
@@ -168,11 +171,11 @@ module _ (t : List ℕ) where
           unfolding table_answer shares_of_table
           check-shares w = eq _ _ _ _ e (no _ _ _ (kept w) refl)
 
-          pub check-fine : (rest : ℕ) → Parted (dialogues (view t)) true rest → CheckTold t 0 counts rest left
+          pub check-fine : (rest : ℕ) → Parted (dialogues (view t)) true rest → CheckTold t (Ok (record { counts = counts; unused = rest; free = left }))
           unfolding table_answer shares_of_table
           check-fine rest p = record {
             is = eq _ _ _ _ e (yes _ _ _ (kept p.is) refl);
-            fine = λ z. record {
+            fine = record {
               ready = ready t o e (kept p.is);
               keeps = kept p.is;
               counted = check-counted counts c;

@@ -18,7 +18,8 @@ ghost use Rattle.table_rules.specs.Checking.{Scanned, CheckTold};
 use paper::{
     DIALOGUE_ACTIVE, DIALOGUE_FREE, DIALOGUE_RECEIVED, GUARANTEES, IDLE, INVOCATIONS, Invocation,
     LIMITS, MOST_INVOCATIONS, MOST_REJECTS, MOST_WAITING, NO_FAULT, PLACE_OCTETS, PLACES,
-    PLACES_IN_ALL, PLACES_SHARED, REJECTING, REJECTS, SERVICE, SERVICES, TABLE_OCTETS, WAITING,
+    PLACES_IN_ALL, PLACES_SHARED, REJECTING, REJECTS, Refusal, SERVICE, SERVICES, TABLE_OCTETS,
+    WAITING,
 };
 
 // A word has eight octets: four invocations, or four rejects.
@@ -463,58 +464,46 @@ fn total(counts: [u8; SERVICES]) -> u32
     n
 }
 
+// What the pass counted: the dialogues of each service, the guaranteed places that aren't used, the free places.
 #[derive(Clone, Copy)]
 pub struct Checked {
-    pub answer: u32,
     pub counts: [u8; SERVICES],
     pub unused: u32,
     pub free: u32,
 }
 
-fn refused(answer: u32) -> Checked
-    ensures { result.answer ≡ answer }
-{
-    Checked {
-        answer: answer,
-        counts: [0; SERVICES],
-        unused: 0,
-        free: 0,
-    }
-}
-
-// 1 a wrong size, 2 a broken rule, else 0 and what the pass counted.
-pub fn check(t: &[u8]) -> Checked
-    ensures { CheckTold t.now result.answer result.counts result.unused result.free }
+// A wrong size, a broken rule, else what the pass counted.
+pub fn check(t: &[u8]) -> Result<Checked, Refusal>
+    ensures { CheckTold t.now result }
 {
     if t.len() != TABLE_OCTETS {
-        return refused(1);
+        return Err(Refusal::WrongSize);
     }
     let s = scan(t);
     let kept = s.ok;
-    if kept {
-        let counts = s.counts;
-        let free = table_map::free_count(t);
-        // "the map agrees with the places": no used place's bit is set, so where as many are set as places are free, they are the free ones'
-        if free + total(counts) != PLACES_SHARED {
-            return refused(2);
-        }
-        let shares = table_shares::shares_kept(
-            &t[GUARANTEES..LIMITS],
-            &t[LIMITS..PLACES],
-            counts,
-            PLACES_SHARED,
-            free,
-        );
-        let fair = shares.ok;
-        if fair {
-            return Checked {
-                answer: 0,
-                counts: counts,
-                unused: shares.unused,
-                free: free,
-            };
-        }
-        return refused(2);
+    if !kept {
+        return Err(Refusal::BrokenTable);
     }
-    refused(2)
+    let counts = s.counts;
+    let free = table_map::free_count(t);
+    // "the map agrees with the places": no used place's bit is set, so where as many are set as places are free, they are the free ones'
+    if free + total(counts) != PLACES_SHARED {
+        return Err(Refusal::BrokenTable);
+    }
+    let shares = table_shares::shares_kept(
+        &t[GUARANTEES..LIMITS],
+        &t[LIMITS..PLACES],
+        counts,
+        PLACES_SHARED,
+        free,
+    );
+    let fair = shares.ok;
+    if !fair {
+        return Err(Refusal::BrokenTable);
+    }
+    Ok(Checked {
+        counts,
+        unused: shares.unused,
+        free,
+    })
 }

@@ -1,5 +1,6 @@
 -- THE CODE'S NUMBERS, of any resource: the decision by five of them, and a walk over the services. Assumes nothing.
-use Rattle.std.specs.Prelude.{◌≡◌, Bool, true, false, ℕ, ◌+◌, ◌-◌, ◌≤◌, ◌<◌, leb, eqb}
+use Rattle.std.specs.Prelude.{◌≡◌, Bool, true, false, ℕ, ◌+◌, ◌-◌, ◌≤◌, ◌<◌, leb, eqb, Option, Some, None}
+use Rattle.std.specs.Option.{is_some, IfSome}
 use Rattle.std.proofs.Math.Path.{refl, sym}
 use Rattle.std.proofs.Common.{ap, ◌∙◌, add-one, arith, leb-true, le-leb, eqb-true}
 use Rattle.std.proofs.lemmas.Bool.{eqb-false}
@@ -40,13 +41,15 @@ module _ (R : Resource) (s count guarantee limit rest left : ℕ) (t : Told R s 
     told-room n m = ge _ _ _ _ over (ne _ _ _ _ (λ q. n (t.counted ∙ q ∙ sym t.limited)) (ne _ _ _ _ (λ q. m (t.remain ∙ q ∙ sym whole)) refl))
 
 -- ---- a walk over the services, and what it adds up
-pub record Parted (R : Resource) (ok : Bool) (rest : ℕ) : Type 0 where
-  pub is : ok ≡ shares_kept R
-  pub told : ok ≡ true → rest ≡ all_unused R
+pub record Parted (R : Resource) (rest : Option ℕ) : Type 0 where
+  pub is : is_some rest ≡ shares_kept R
+  pub told : IfSome rest (λ n. n ≡ all_unused R)
 
 -- other holdings, the same for each of its services
-pub parted-same : (R : Resource) (c : ℕ → ℕ) → ((k : ℕ) → k < R.services → c k ≡ R.held k) → {ok : Bool} {rest : ℕ} → Parted (holding R c) ok rest → Parted R ok rest
-parted-same R c e p = record { is = p.is ∙ same_kept R c e; told = λ q. p.told q ∙ same-unused R c e }
+module _ (R : Resource) (c : ℕ → ℕ) (e : (k : ℕ) → k < R.services → c k ≡ R.held k) where
+  pub parted-same : (rest : Option ℕ) → Parted (holding R c) rest → Parted R rest
+  parted-same None p = record { is = p.is ∙ same_kept R c e; told = tt }
+  parted-same (Some n) p = record { is = p.is ∙ same_kept R c e; told = p.told ∙ same-unused R c e }
 
 -- so much is left
 pub record Remains (R : Resource) (left : ℕ) : Type 0 where
@@ -67,20 +70,20 @@ module _ (R : Resource) where
   pub walk_start : Walked R 0 0 0 0
   walk_start = record { guaranteed = refl; kept = refl; within = λ i h. absurd (omega arith); none = λ w. refl }
 
-  pub walk_more : {k total rest over g u x e f : ℕ} → Walked R k total rest over
-      → g ≡ R.guarantee k → u ≡ unused R k → x ≡ R.guarantee k + (R.held k - R.guarantee k) → e ≡ x - R.limit k → f ≡ R.limit k - R.size
-      → Walked R (k + 1) (total + g) (rest + u) (over + e + f)
-  walk_more {k} {total} {rest} {over} {g} {u} {x} {e} {f} w a b hx he hf = record {
+  pub walk_more : {k total rest over g u e f : ℕ} → Walked R k total rest over
+      → g ≡ R.guarantee k → u ≡ unused R k → e ≡ R.guarantee k + (R.held k - R.guarantee k) - R.limit k → f ≡ R.limit k - R.size
+      → Walked R (k + 1) (total + g) (rest + u) (over + (e + f))
+  walk_more {k} {total} {rest} {over} {g} {u} {e} {f} w a b he hf = record {
     guaranteed = omega (arith, w.guaranteed, a) ∙ ap (sum R.guarantee) (sym (add-one k));
     kept = omega (arith, w.kept, b) ∙ ap (sum (unused R)) (sym (add-one k));
     within = λ i h. go i h (eqb i k) refl;
     none = λ v.
         let z : Within R 0 k = v k (omega arith) in
-        omega (arith, w.none (λ i h. v i (omega arith)), he, hf, hx, z.0, z.1, z.2);
+        omega (arith, w.none (λ i h. v i (omega arith)), he, hf, z.0, z.1, z.2);
   }
     where
-      go : (i : ℕ) → i < k + 1 → (t : Bool) → eqb i k ≡ t → Within R (over + e + f) i
-      go i h true q = rw (eqb-true i k q) (omega (arith, hx, he), omega (arith, hx, he), omega (arith, hf))
+      go : (i : ℕ) → i < k + 1 → (t : Bool) → eqb i k ≡ t → Within R (over + (e + f)) i
+      go i h true q = rw (eqb-true i k q) (omega (arith, he), omega (arith, he), omega (arith, hf))
       go i h false q =
           let j : i ≡ k → ⊥ = eqb-false i k q in
           let y : Within R over i = w.within i (omega arith) in
@@ -121,10 +124,16 @@ module _ (R : Resource) where
         ge _ _ _ _ (omega arith)
         (ge _ _ _ _ (omega (arith, s.shares.fits, all-guaranteed)) (sym (le-leb rest left (omega (arith, s.room, m.is, all_rest)))))
 
-    pub walk-told : {ok : Bool} → ok ≡ fair total rest over left → Parted R ok rest
-    walk-told {ok} e = record { is = go ok e (shares_kept R) refl; told = λ q. all_rest }
+    walk-kept : (b : Bool) → b ≡ fair total rest over left → b ≡ shares_kept R
+    walk-kept b e = go b e (shares_kept R) refl
       where
         go : (b : Bool) → b ≡ fair total rest over left → (d : Bool) → shares_kept R ≡ d → b ≡ shares_kept R
         go true f d q = sym (sound-kept R (fair-sound f))
         go false f true q = absurd (true-false (sound-fair (kept-sound R (omega (arith, m.is)) q) ∙ sym f))
         go false f false q = sym q
+
+    pub walk-told : true ≡ fair total rest over left → Parted R (Some rest)
+    walk-told e = record { is = walk-kept true e; told = all_rest }
+
+    pub walk-broken : false ≡ fair total rest over left → Parted R None
+    walk-broken e = record { is = walk-kept false e; told = tt }

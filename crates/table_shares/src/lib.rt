@@ -10,26 +10,35 @@ ghost use Rattle.table_shares.specs.Telling.{Told, Remains, Parted};
 
 use paper::SERVICES;
 
-// Whether a service is given one more. At or above its guarantee its own unused part is 0, so all services' is the others'.
-pub fn gives_place(count: u32, guarantee: u32, limit: u32, unused: u32, free: u32) -> bool
-    ensures { (R : Resource) (s : ℕ) → Told R s count guarantee limit unused free → result ≡ gives R s }
-{
-    if count < guarantee {
-        return true;
-    }
-    if count == limit {
-        return false;
-    }
-    if free == unused {
-        return false;
-    }
-    true
-}
-
+// A service's share.
 #[derive(Clone, Copy)]
 pub struct Share {
     pub guarantee: u32,
     pub limit: u32,
+}
+
+impl Share {
+    // Whether the service, which has so many, is given one more. At or above its guarantee its own unused part is 0, so all services' is the
+    // others'.
+    pub fn gives_place(self, count: u32, unused: u32, free: u32) -> bool
+        ensures { (R : Resource) (s : ℕ) → Told R s count self.guarantee self.limit unused free → result ≡ gives R s }
+    {
+        count < self.guarantee || count != self.limit && free != unused
+    }
+
+    // What of the guarantee isn't used.
+    fn unused(self, count: u32) -> u32
+        ensures { result ≡ self.guarantee - count }
+    {
+        self.guarantee.saturating_sub(count)
+    }
+
+    // How far the limit is passed, by the guarantee or by what the service has.
+    fn passed(self, count: u32) -> u32
+        ensures { result ≡ self.guarantee + (count - self.guarantee) - self.limit }
+    {
+        self.guarantee.max(count).saturating_sub(self.limit)
+    }
 }
 
 // A service's share, where shares stand as octets, one a service.
@@ -37,51 +46,18 @@ pub fn share_at(guarantees: &[u8], limits: &[u8], k: usize) -> Share
     requires { (length guarantees.now ≡ services) × (length limits.now ≡ services) × (k < services) }
     ensures { (result.guarantee ≡ get_or guarantees.now k 0) × (result.limit ≡ get_or limits.now k 0) × (result.guarantee < 256) × (result.limit < 256) }
 {
-    let guarantee = laws::number(guarantees[k]);
-    let limit = laws::number(limits[k]);
     Share {
-        guarantee: guarantee,
-        limit: limit,
+        guarantee: u32::from(guarantees[k]),
+        limit: u32::from(limits[k]),
     }
-}
-
-// How far a is above b, 0 where it is not: what of a guarantee is not used, how far a limit is passed.
-fn beyond(a: u32, b: u32) -> u32
-    ensures { result ≡ a - b }
-{
-    if a < b {
-        return 0;
-    }
-    a - b
-}
-
-// The higher of two.
-fn higher(a: u32, b: u32) -> u32
-    ensures { result ≡ a + (b - a) }
-{
-    if b > a {
-        return b;
-    }
-    a
 }
 
 // No limit is passed, nor are the guarantees together above all there is, and what of them is unused is free.
+#[tactic(auto, unfolding(laws::specs::If::if_lt))]
 fn fair(over: u32, sum: u32, unused: u32, size: u32, free: u32) -> bool
     ensures { result ≡ if_lt 0 over false (if_lt size sum false (leb unused free)) }
 {
-    if over > 0 {
-        return false;
-    }
-    if size < sum {
-        return false;
-    }
-    unused <= free
-}
-
-#[derive(Clone, Copy)]
-pub struct Kept {
-    pub ok: bool,
-    pub unused: u32,
+    over == 0 && sum <= size && unused <= free
 }
 
 // "shares as for 13; nobody above the limit; free places at least the sum of unused guarantees", and that sum: of a resource of that size of
@@ -93,27 +69,24 @@ pub fn shares_kept(
     counts: [u8; SERVICES],
     size: u32,
     free: u32,
-) -> Kept
+) -> Option<u32>
     requires { (length guarantees.now ≡ services) × (length limits.now ≡ services) × Remains (shared size services guarantees.now limits.now (λ k. get_or counts k 0)) free }
-    ensures { Parted (shared size services guarantees.now limits.now (λ k. get_or counts k 0)) result.ok result.unused }
+    ensures { Parted (shared size services guarantees.now limits.now (λ k. get_or counts k 0)) result }
 {
     let mut sum: u32 = 0;
     let mut unused: u32 = 0;
     let mut over: u32 = 0;
-    let mut k: usize = 0;
-    while k < SERVICES {
+    for k in 0..SERVICES {
         let share = share_at(guarantees, limits, k);
-        let guarantee = share.guarantee;
-        let limit = share.limit;
         let count = laws::number(counts[k]);
-        sum = sum + guarantee;
-        unused = unused + beyond(guarantee, count);
-        over = over + beyond(higher(guarantee, count), limit) + beyond(limit, size);
-        k += 1;
+        sum += share.guarantee;
+        unused += share.unused(count);
+        over += share.passed(count) + share.limit.saturating_sub(size);
     }
-    Kept {
-        ok: fair(over, sum, unused, size, free),
-        unused: unused,
+    if fair(over, sum, unused, size, free) {
+        Some(unused)
+    } else {
+        None
     }
 }
 
@@ -122,7 +95,5 @@ pub fn shares_fit(guarantees: &[u8], limits: &[u8], size: u32) -> bool
     requires { (length guarantees.now ≡ services) × (length limits.now ≡ services) }
     ensures { result ≡ shares_fit (shared size services guarantees.now limits.now (λ k. 0)) }
 {
-    let none: [u8; SERVICES] = [0; SERVICES];
-    let kept = shares_kept(guarantees, limits, none, size, size);
-    kept.ok
+    shares_kept(guarantees, limits, [0; SERVICES], size, size).is_some()
 }

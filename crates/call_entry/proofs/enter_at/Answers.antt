@@ -1,26 +1,26 @@
-use mathlib.Core.Path.{◌≡◌, refl, sym, subst, ◌∙◌}
-use native.Mathlib.Omega.{arith}
+use mathlib.Core.Path.{◌≡◌, refl, sym, ◌∙◌}
 use Prim.Native.Nat.{ℕ}
-use Rattle.call_entry.specs.Prologue.{spaces, Enters, meets-not, meets-none, meets}
+use mathlib.Core.List.{List}
+use Rattle.paper.specs.declared.Refusal.{Refusal}
+use Rattle.call_entry.specs.Replies.{passed_up}
+use Rattle.call_entry.specs.Prologue.{spaces, Meets, meets-not, meets-none, meets}
 use Rattle.call_entry.proofs.enter_at.Goals as goal
 
-pub returns-then-answer-ne0 : goal.returns-then-answer-ne0
-returns-then-answer-ne0 c =
-    meets-not c.args.t.now _ _ c.args.service c.args.dialogue c.enter-e.result.answer c.enter-e.result.may 0 c.enter-e.ensures (omega arith)
+pub returns-in_err-enter : goal.returns-in_err-enter
+returns-in_err-enter c =
+    let t : List ℕ = c.args.t.now in
+    let why : Refusal = c.in_err-enter.field-0.0 in
+    passed_up (Meets t (spaces c.args.lent) (spaces c.args.least) c.args.service c.args.dialogue) c.from_residual.result why c.from_residual.ensures.1
+    (meets-not t _ _ c.args.service c.args.dialogue why c.in_err-enter.ensures)
 
 pub owner-requires : goal.owner-requires
 owner-requires c =
-    let z : c.enter-e.result.answer ≡ 0 = omega arith in
-    (c.enter-e.ensures.inside z).ready.long
+    c.in_ok-enter.ensures.inside.ready.long
 
-pub returns-then-owner : goal.returns-then-owner
-returns-then-owner c =
-    let z : c.enter-e.result.answer ≡ 0 = omega arith in
-    meets c.args.t.now _ _ c.args.service c.args.dialogue c.enter-e.result.may
-    (subst (λ (n : ℕ). Enters c.args.t.now (spaces c.args.lent) (spaces c.args.least) c.args.service n c.enter-e.result.may) z c.enter-e.ensures) (sym c.if-owner.true ∙ c.owner.ensures) _ refl
+pub returns-then-not-owner : goal.returns-then-not-owner
+returns-then-not-owner c =
+    meets-none c.args.t.now _ _ c.args.service c.args.dialogue c.in_ok-enter.field-0 c.in_ok-enter.ensures (sym c.if-not-owner.true ∙ c.owner.ensures)
 
 pub returns : goal.returns
 returns c =
-    let z : c.enter-e.result.answer ≡ 0 = omega arith in
-    meets-none c.args.t.now _ _ c.args.service c.args.dialogue c.enter-e.result.may
-    (subst (λ (n : ℕ). Enters c.args.t.now (spaces c.args.lent) (spaces c.args.least) c.args.service n c.enter-e.result.may) z c.enter-e.ensures) 0 (sym c.if-owner.false ∙ c.owner.ensures)
+    meets c.args.t.now _ _ c.args.service c.args.dialogue c.in_ok-enter.field-0 c.in_ok-enter.ensures (sym c.if-not-owner.false ∙ c.owner.ensures) _ refl

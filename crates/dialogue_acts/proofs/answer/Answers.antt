@@ -1,24 +1,19 @@
-use native.Mathlib.Omega.{arith}
-use mathlib.Core.Path.{refl, sym, ap, ◌∙◌}
+use Rattle.std.proofs.Common.{refl, ap, ◌∙◌, List}
 use Rattle.laws.specs.If.{eq, ne}
-use Rattle.dialogue_acts.specs.Told.{state-is, stays-stored}
-use Rattle.paper.specs.Invocations.{answers, rejected}
+use Rattle.paper.specs.declared.Invocation.{Invocation}
+use Rattle.paper.specs.Invocations.{answers, rejected, invocation_of}
+use Rattle.dialogue_acts.specs.Told.{sent-found, stays-stored}
 use Rattle.dialogue_acts.proofs.answer.Goals as goal
 
-pub answer_sent-requires : goal.answer_sent-requires
-answer_sent-requires c =
-    (c.state_at-state.ensures.there (omega arith), sym c.state_at-state.ensures.is ∙ c.if-state-eq-SENT.true)
-
-pub returns-then-state-eq-SENT : goal.returns-then-state-eq-SENT
+pub returns-in-Some-clause-is : goal.returns-in-Some-clause-is
 unfolding answers
-returns-then-state-eq-SENT c =
-    record { is = λ room d e q. c.answer_sent.ensures.is room _ d e c.slot_of-i.ensures.is q ∙ eq _ _ _ _ (state-is d _ _ _ e c.slot_of-i.ensures.is _ c.state_at-state.ensures.is ∙ c.if-state-eq-SENT.true) refl; waits = c.answer_sent.ensures.waits }
+returns-in-Some-clause-is c =
+    λ room d e q.
+    let s = c.in-Some.ensures.some in
+    c.answer_sent.ensures.is room c.args.id d e s.1 q ∙ eq _ _ _ _ (sent-found d c.args.id c.in-Some.i c.args.l e s.1 s.0 s.2) refl
 
-pub returns : goal.returns
+pub returns-in-None-clause-is : goal.returns-in-None-clause-is
 unfolding answers
-returns c =
-    record {
-      is = λ room d e q. stays-stored d _ _ _ _ c.stays.ensures.is room q ∙ ap (rejected room d _) c.answer_problem-problem.ensures
-          ∙ ne _ _ _ _ (λ h. c.if-state-eq-SENT.false (sym (state-is d _ _ _ e c.slot_of-i.ensures.is _ c.state_at-state.ensures.is) ∙ h)) refl;
-      waits = λ h. omega arith;
-    }
+returns-in-None-clause-is c =
+    λ room d e q. stays-stored d _ _ _ _ c.stays.ensures room q ∙ ap (rejected room d _) c.answer_problem.ensures
+    ∙ ne _ _ _ _ (λ h. c.in-None.ensures.none (ap (λ (l : List Invocation). (invocation_of l c.args.id).state) e ∙ h)) refl

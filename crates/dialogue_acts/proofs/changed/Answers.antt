@@ -1,14 +1,9 @@
-use native.Mathlib.Omega.{arith}
-use mathlib.Core.Path.{ap, ◌∙◌}
+use Rattle.std.proofs.Common.{ap, ◌∙◌}
 use Rattle.laws.specs.If.{eq, ne}
-use Rattle.dialogue_acts.specs.Told.{changed}
-use Rattle.paper.specs.Invocations.{with_reject}
 use Rattle.paper.specs.declared.Control.{Control}
+use Rattle.paper.specs.Invocations.{with_reject}
+use Rattle.dialogue_acts.specs.Told.{changed}
 use Rattle.dialogue_acts.proofs.changed.Goals as goal
-
-pub wait-requires : goal.wait-requires
-wait-requires c =
-    omega (arith, c.requires c.if-t-eq-ROW_REJECTED.true)
 
 pub returns-then-t-eq-ROW_REJECTED : goal.returns-then-t-eq-ROW_REJECTED
 unfolding changed
@@ -17,5 +12,4 @@ returns-then-t-eq-ROW_REJECTED c =
 
 pub returns : goal.returns
 unfolding changed
-returns c =
-    ne _ _ _ _ c.if-t-eq-ROW_REJECTED.false c.turned-d.ensures.is
+returns c = ne _ _ _ _ c.if-t-eq-ROW_REJECTED.false c.turned-d.ensures.is

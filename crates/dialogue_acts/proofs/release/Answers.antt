@@ -1,13 +1,14 @@
-use native.Mathlib.Omega.{arith}
-use mathlib.Core.Path.{refl, ap}
-use Rattle.dialogue_acts.specs.declared.Told.{Told}
+use Rattle.std.proofs.Common.{ap, ◌∙◌, List}
+use Rattle.paper.specs.declared.Invocation.{Invocation}
+use Rattle.paper.specs.Invocations.{invocation_of}
 use Rattle.dialogue_acts.specs.Told.{release-put, release-none}
 use Rattle.dialogue_acts.proofs.release.Goals as goal
 
-pub returns-then-state-eq-SENT : goal.returns-then-state-eq-SENT
-returns-then-state-eq-SENT c =
-    record { is = λ d e. release-put d _ _ _ e c.slot_of-i.ensures.is (c.state_at-state.ensures.there (omega arith)) _ _ _ c.no_invocation-put.ensures _ c.state_at-state.ensures.is c.if-state-eq-SENT.true; told = (refl, refl) }
+pub returns-in-Some-clause-is : goal.returns-in-Some-clause-is
+returns-in-Some-clause-is c =
+    let s = c.in-Some.ensures.some in
+    λ d e. release-put d c.args.id c.in-Some.i c.args.l e s.1 s.0 s.2 _ _ _ c.puts.ensures
 
-pub returns : goal.returns
-returns c =
-    record { is = λ d e. release-none d _ _ _ e c.slot_of-i.ensures.is _ _ _ _ c.state_at-state.ensures.is c.if-state-eq-SENT.false c.stays.ensures.is; told = (c.stays.ensures.told, ap (λ (t : Told). t.problem) c.stays.ensures.is) }
+pub returns-in-None-clause-is : goal.returns-in-None-clause-is
+returns-in-None-clause-is c =
+    λ d e. release-none d _ _ _ _ c.stays.ensures (λ h. c.in-None.ensures.none (ap (λ (l : List Invocation). (invocation_of l c.args.id).state) e ∙ h))

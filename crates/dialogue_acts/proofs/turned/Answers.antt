@@ -1,17 +1,20 @@
-use mathlib.Core.Path.{refl, ◌∙◌}
-use Rattle.dialogue_acts.specs.Told.{turned_none, turned-idle, turned-some, turned-count}
+use Rattle.std.proofs.Common.{◌∙◌}
+use Rattle.dialogue_acts.specs.Told.{turned_none, turned-out, turned-idle, turned-some, turned-count}
 use Rattle.dialogue_acts.proofs.turned.Goals as goal
 
-pub returns-then-i-ge8 : goal.returns-then-i-ge8
-returns-then-i-ge8 c =
-    record { is = turned_none _ _ _ c.if-i-ge8.true; count = refl }
+pub returns-then-v-eq-IDLE-clause-is : goal.returns-then-v-eq-IDLE-clause-is
+returns-then-v-eq-IDLE-clause-is c =
+    c.release.ensures ∙ turned-idle c.args.c c.args.id c.args.t.put _ _ c.in-Some.is c.if-i-lt-MOST_INVOCATIONS.true c.if-v-eq-IDLE.true
 
-pub returns-then-put-eq-IDLE : goal.returns-then-put-eq-IDLE
-returns-then-put-eq-IDLE c =
-    let e = c.release.ensures ∙ turned-idle c.args.c c.args.id c.args.t c.if-i-ge8.false c.if-put-eq-IDLE.true in
-    record { is = e; count = turned-count c.args.c c.args.id c.args.t _ e }
+pub returns-then-v-eq-IDLE-clause-count : goal.returns-then-v-eq-IDLE-clause-count
+returns-then-v-eq-IDLE-clause-count c = turned-count c.args.c c.args.id c.args.t.put _ (returns-then-v-eq-IDLE-clause-is c)
 
-pub returns : goal.returns
-returns c =
-    let e = c.put_invocation.ensures ∙ turned-some c.args.c c.args.id c.args.t c.if-i-ge8.false c.if-put-eq-IDLE.false in
-    record { is = e; count = turned-count c.args.c c.args.id c.args.t _ e }
+pub returns-else-v-eq-IDLE-clause-is : goal.returns-else-v-eq-IDLE-clause-is
+returns-else-v-eq-IDLE-clause-is c =
+    c.put_invocation.ensures ∙ turned-some c.args.c c.args.id c.args.t.put _ _ c.in-Some.is c.if-i-lt-MOST_INVOCATIONS.true c.if-v-eq-IDLE.false
+
+pub returns-in_default-clause-is : goal.returns-in_default-clause-is
+returns-in_default-clause-is c = turned-out c.args.c c.args.id c.args.t.put _ _ c.in-Some.is c.if-i-lt-MOST_INVOCATIONS.false
+
+pub returns-in_default-2-clause-is : goal.returns-in_default-2-clause-is
+returns-in_default-2-clause-is c = turned_none c.args.c c.args.id c.args.t.put c.in_default.is

@@ -1,4 +1,4 @@
-use Rattle.call_entry.specs.Ends.{one-row, dialogue-refused, dialogue-no, dialogue-done}
+use Rattle.call_entry.specs.Ends.{one-row, dialogue-entry, dialogue-no, dialogue-done}
 use Rattle.call_entry.specs.Replies.{with_rows}
 use Rattle.paper.specs.Layout.{view}
 use Rattle.paper.specs.Calls.{place_at}
@@ -15,38 +15,38 @@ use lib.Seq.{sets}
 use native.Mathlib.Omega.{arith}
 use mathlib.Core.List.{[], ◌∷◌}
 use mathlib.Core.Path.{refl, sym, ap, ◌∙◌}
-use Rattle.call_release.proofs.no_reaction.Goals as goal
+use Rattle.call_release.proofs.try_no_reaction.Goals as goal
 
-pub returns-then-answer-ne0 : goal.returns-then-answer-ne0
-returns-then-answer-ne0 c =
-    dialogue-refused (with_rows c.args.table.now c.args.rows.now) c.args.service c.args.dialogue NoReaction
-    c.enter_at-m.result.answer c.enter_at-m.ensures.is (omega arith) c.refused.ensures
+pub returns-in_err-p : goal.returns-in_err-p
+returns-in_err-p c =
+    dialogue-entry (with_rows c.args.table.now c.args.rows.now) c.args.service c.args.dialogue NoReaction
+    c.from_residual.result c.in_err-p.field-0.0 c.from_residual.ensures.1 c.in_err-p.ensures.is
 
 pub load-c-requires : goal.load-c-requires
 load-c-requires c =
-    let u = (c.enter_at-m.ensures.inside c.if-answer-ne0.false).used in
+    let u = c.in_ok-p.ensures.inside.used in
     (u.small, u.ready.long)
 
 pub returns-then-state-ne-DIALOGUE_SENT : goal.returns-then-state-ne-DIALOGUE_SENT
 unfolding refusal needs_sent
 returns-then-state-ne-DIALOGUE_SENT c =
     dialogue-no (with_rows c.args.table.now c.args.rows.now) c.args.service c.args.dialogue NoReaction
-    c.enter_at-m.result.place (c.enter_at-m.ensures.inside c.if-answer-ne0.false) 6 (ne _ _ _ _ (λ q. c.if-state-ne-DIALOGUE_SENT.true (ap (λ (k : Control). k.state) c.load-c.ensures ∙ q)) refl) (omega arith) c.refused-then-state-ne-DIALOGUE_SENT.ensures
+    c.in_ok-p.p c.in_ok-p.ensures.inside 6 (ne _ _ _ _ (λ q. c.if-state-ne-DIALOGUE_SENT.true (ap (λ (k : Control). k.state) c.load-c.ensures ∙ q)) refl) (omega arith) refl
 
 pub free_at-requires : goal.free_at-requires
 free_at-requires c =
-    let u = (c.enter_at-m.ensures.inside c.if-answer-ne0.false).used in
+    let u = c.in_ok-p.ensures.inside.used in
     (u.ready, u.small, u.told)
 
 pub write_row-requires : goal.write_row-requires
 write_row-requires c =
-    omega (arith, (c.enter_at-m.ensures.inside c.if-answer-ne0.false).within.long.0)
+    omega (arith, c.in_ok-p.ensures.inside.within.long.0)
 
 pub returns : goal.returns
 unfolding refusal does needs_sent
 returns c =
     let w : Row = dialogue_row row_abort c.args.dialogue no_problem no_run 0 in
     dialogue-done (with_rows c.args.table.now c.args.rows.now) c.args.service c.args.dialogue NoReaction
-    c.enter_at-m.result.place (c.enter_at-m.ensures.inside c.if-answer-ne0.false) (freed (place_at (view c.args.table.now) c.enter_at-m.result.place)) (w ∷ []) []
-    (eq _ _ _ _ (ap (λ (k : Control). k.state) (sym c.load-c.ensures) ∙ c.if-state-ne-DIALOGUE_SENT.false) refl) refl c.done.ensures c.free_at.ensures
+    c.in_ok-p.p c.in_ok-p.ensures.inside (freed (place_at (view c.args.table.now) c.in_ok-p.p)) (w ∷ []) []
+    (eq _ _ _ _ (ap (λ (k : Control). k.state) (sym c.load-c.ensures) ∙ c.if-state-ne-DIALOGUE_SENT.false) refl) refl refl c.free_at.ensures
     (c.write_row.ensures.is ∙ ap (λ (r : Row). sets c.args.rows.now 0 (row_octets r)) c.dialogue_row-row.ensures ∙ one-row c.args.rows.now w) refl
