@@ -163,10 +163,10 @@ module _ (s t : List ℕ) (k lim lim' at p end : ℕ) (ep : p ≡ k + at) (fits 
           (λ d e. leaf e (λ g. ge _ _ _ _ (omega arith) (ne _ _ _ _ d (ap Whole q)) ∙ there (Given b n) some el (omega arith))))
 
 -- ---- contents and elements
-ends_is : (a b : ℕ) → Ok a ≡ Ok b → a ≡ b
+ends_is : (a b : ℕ) → ◌≡◌ {A = Reading} (Ok a) (Ok b) → a ≡ b
 ends_is a b e = cc
 
-ends-never : {P : Type 0} (a b : ℕ) → Ok a ≡ Err b → P
+ends-never : {P : Type 0} (a b : ℕ) → ◌≡◌ {A = Reading} (Ok a) (Err b) → P
 ends-never a b e = absurd (let z : ◌≡◌ {A = ℕ} 0 1 = cc in omega arith)
 
 -- an element's first octet is no 0
@@ -219,7 +219,7 @@ module _ (s t : List ℕ) (k d d' : ℕ) (carry : Carries s t k d d') (o : Bool)
       Rest = (at p n' : ℕ) → Ok e ≡ contents (element s d) s o lim outer n at → outer < at → at ≤ lim → p ≡ k + at → Same s t k at e → lim' - p < n'
           → Ok (k + e) ≡ contents (element t d') t o lim' outer' n' p
 
-      end : (o : Bool) → e ≡ end_at o at → Ok (k + e) ≡ Ok (end_at o p)
+      end : (o : Bool) → e ≡ end_at o at → ◌≡◌ {A = Reading} (Ok (k + e)) (Ok (end_at o p))
       end true h = let z : k + e ≡ p + 2 = omega arith in ap Ok z
       end false h = let z : k + e ≡ p = omega arith in ap Ok z
 
