@@ -7,6 +7,6 @@ pub returns-then-e-line : goal.returns-then-e-line
 returns-then-e-line c =
     (past-at c.args.separator c.args.line.now c.args.from c.end_of-e.result _ c.end_of-e.ensures.0 refl, omega arith)
 
-pub returns : goal.returns
-returns c =
+pub returns-else-e-line : goal.returns-else-e-line
+returns-else-e-line c =
     (past-none c.args.separator c.args.line.now c.args.from c.end_of-e.result c.end_of-e.ensures.0 (omega arith), omega arith)
