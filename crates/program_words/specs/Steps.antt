@@ -1,5 +1,5 @@
 -- WHAT THE FUNCTIONS DO, STEP BY STEP, against the definitions. Assumes nothing.
-use Rattle.std.specs.Prelude.{Option, Some, None, unwrap_or, filter, cond, ◌&&◌, ℕ, zero, suc, ◌+◌, ◌-◌, ◌≤◌, Bool, true, false, ◌≡◌, refl, take, eqb}
+use Rattle.std.specs.Prelude.{Option, Some, None, unwrap_or, filter, cond, ◌&&◌, ℕ, zero, suc, ◌+◌, ◌-◌, ◌≤◌, min, Bool, true, false, ◌≡◌, refl, take, eqb}
 use Rattle.std.proofs.Math.Path.{sym, ap}
 use Rattle.std.proofs.Common.{◌∙◌, add-one, arith, length-drop, drop_of_length-le, drop-drop}
 use mathlib.Core.List.{List, [], ◌∷◌}
@@ -18,14 +18,18 @@ use Rattle.program_words.specs.Words.{up_to, past, after, word_of, field_of, cou
 
 module _ (x : ℕ) (s : List ℕ) where
   -- past it
-  pub past-at : (from e r : ℕ) → e ≡ from + length (up_to x (drop from s)) → r ≡ e + 1 → drop r s ≡ past x (drop from s)
+  past-at : (from e r : ℕ) → e ≡ from + length (up_to x (drop from s)) → r ≡ e + 1 → drop r s ≡ past x (drop from s)
   past-at from e r p q =
       let f : r ≡ from + suc (length (up_to x (drop from s))) = omega arith in
       ap (λ (k : ℕ). drop k s) f ∙ sym (drop-drop (suc (length (up_to x (drop from s)))) from s)
 
-  pub past-none : (from e : ℕ) → e ≡ from + length (up_to x (drop from s)) → length s ≤ e → drop e s ≡ past x (drop from s)
-  past-none from e p h =
+  past-none : (from r : ℕ) → length s ≤ from + length (up_to x (drop from s)) → length s ≤ r → drop r s ≡ past x (drop from s)
+  past-none from r p h =
       drop_of_length-le s h ∙ sym (drop_of_length-le (drop from s) {i = suc (length (up_to x (drop from s)))} (omega (arith, length-drop from s)))
+
+  pub past_is : (from e r : ℕ) → e ≡ from + length (up_to x (drop from s)) → r ≡ min (e + 1) (length s) → drop r s ≡ past x (drop from s)
+  past_is from e r p q = by-lt {A = ℕ} {r = if_lt e (length s) 0 0} e (length s) 0 0 refl
+      (λ l _. past-at from e r p (omega arith)) (λ l _. past-none from r (omega arith) (omega arith))
 
   pub after_next : (i a b : ℕ) → drop a s ≡ after x i s → drop b s ≡ past x (drop a s) → drop b s ≡ after x (i + 1) s
   unfolding after
@@ -36,7 +40,8 @@ module _ (x : ℕ) (s : List ℕ) where
       let e : drop a s ≡ after x k s = g ∙ ap (λ (n : ℕ). after x n s) j in
       let p : a ≡ length s - length (after x k s) = omega (arith, ap length e, length-drop a s) in
       let q : b ≡ length s - length (after x k s) + length (word_of x k s) = omega (arith, ap (λ (t : List ℕ). length (up_to x t)) e) in
-      ap (λ (n : ℕ). record { start = n; stop = b }) p ∙ ap (λ (n : ℕ). record { start = length s - length (after x k s); stop = n }) q
+      let r : ◌≡◌ {A = Field} (record { start = a; stop = b }) (record { start = length s - length (after x k s); stop = b }) = ap (λ (n : ℕ). record { start = n; stop = b }) p in
+      r ∙ ap (λ (n : ℕ). record { start = length s - length (after x k s); stop = n }) q
 
 -- a word is what lies in its field
 pub up-to-short : (x : ℕ) (s : List ℕ) → (length (up_to x s) ≤ length s) × (take (length (up_to x s)) s ≡ up_to x s)

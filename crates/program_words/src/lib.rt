@@ -29,8 +29,7 @@ fn past(line: &[u8], separator: u8, from: usize) -> usize
     requires { from ≤ length line.now }
     ensures { (drop result line.now ≡ words_past separator (drop from line.now)) × (result ≤ length line.now) }
 {
-    let e = end_of(line, separator, from);
-    if e < line.len() { e + 1 } else { e }
+    (end_of(line, separator, from) + 1).min(line.len())
 }
 
 // The word with k others before it, empty after the last one: where it lies.
