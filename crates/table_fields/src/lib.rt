@@ -17,7 +17,7 @@ use std::array;
 // The octets of place p.
 pub fn slot(t: &[u8], p: usize) -> &[u8; PLACE_OCTETS]
     requires { (p < places_in_all) × (length t.now ≡ table_size) }
-    ensures { result.now ≡ slot t.now p }
+    ensures is { result.now ≡ slot t.now p }
 {
     let a = PLACES + p * PLACE_OCTETS;
     let rec = &t[a..a + PLACE_OCTETS];

@@ -43,8 +43,8 @@ const AFTER_WORDS: usize = SERVICE + 3 * WORD;
 const BROKEN: usize = SERVICES + 1;
 
 // Whether a place's octets are all 0 from k on.
-fn zeros_from(rec: &[u8], k: usize) -> bool
-    requires { (length rec.now ≡ place_size) × (k ≤ place_size) }
+fn zeros_from(rec: &[u8; PLACE_OCTETS], k: usize) -> bool
+    requires { k ≤ place_size }
     ensures { result ≡ zeros (drop k rec.now) }
 {
     let mut acc: u8 = 0;
@@ -57,8 +57,8 @@ fn zeros_from(rec: &[u8], k: usize) -> bool
 }
 
 // "a free place is all zero but its turn": its state is 0. Three words first, so that the rest is a run of whole vectors.
-fn free_kept(rec: &[u8]) -> bool
-    requires { (length rec.now ≡ place_size) × (get_or rec.now state_at 0 ≡ 0) }
+fn free_kept(rec: &[u8; PLACE_OCTETS]) -> bool
+    requires { get_or rec.now state_at 0 ≡ 0 }
     ensures { result ≡ zeros (drop state_at rec.now) }
 {
     if table_map::word(rec, SERVICE) != 0 {
@@ -110,8 +110,8 @@ fn is_open(v: Invocation, wanted: u8) -> bool
 }
 
 // "invoke IDs within a dialogue differ": no invocation from the i-th on is open with that ID. From the n-th on none is open.
-fn unused_from(rec: &[u8], id: u8, i: usize, n: usize) -> bool
-    requires { (length rec.now ≡ place_size) × (i ≤ n) × IdleFrom n rec.now }
+fn unused_from(rec: &[u8; PLACE_OCTETS], id: u8, i: usize, n: usize) -> bool
+    requires { (i ≤ n) × IdleFrom n rec.now }
     ensures { result ≡ none_open id (invocations_from i rec.now) }
 {
     let mut k = i;
@@ -125,8 +125,8 @@ fn unused_from(rec: &[u8], id: u8, i: usize, n: usize) -> bool
 }
 
 // The i-th invocation keeps the rules, and no later one has its ID.
-fn invocation_at_kept(rec: &[u8], i: usize, n: usize) -> bool
-    requires { (length rec.now ≡ place_size) × (i < n) × IdleFrom n rec.now }
+fn invocation_at_kept(rec: &[u8; PLACE_OCTETS], i: usize, n: usize) -> bool
+    requires { (i < n) × IdleFrom n rec.now }
     ensures { result ≡ invocation_at_kept rec.now i }
 {
     let a = INVOCATIONS + 2 * i;
@@ -143,8 +143,8 @@ fn invocation_at_kept(rec: &[u8], i: usize, n: usize) -> bool
 }
 
 // Each of the n first invocations; from the n-th on none is open.
-fn each_invocation_kept(rec: &[u8], n: usize) -> bool
-    requires { (length rec.now ≡ place_size) × IdleFrom n rec.now }
+fn each_invocation_kept(rec: &[u8; PLACE_OCTETS], n: usize) -> bool
+    requires { IdleFrom n rec.now }
     ensures { result ≡ invocations_kept (invocations_from 0 rec.now) }
 {
     let mut i: usize = 0;
@@ -159,8 +159,7 @@ fn each_invocation_kept(rec: &[u8], n: usize) -> bool
 }
 
 // The eight invocations: two words show how many at the end are not open.
-fn invocations_kept(rec: &[u8]) -> bool
-    requires { length rec.now ≡ place_size }
+fn invocations_kept(rec: &[u8; PLACE_OCTETS]) -> bool
     ensures { result ≡ invocations_kept (invocations_from 0 rec.now) }
 {
     if table_map::word(rec, LAST_INVOCATIONS) != 0 {
@@ -191,8 +190,8 @@ fn reject_kept(id: u8, o: u8) -> bool
 }
 
 // The i-th reject, of which n wait.
-fn reject_at_kept(rec: &[u8], n: usize, i: usize) -> bool
-    requires { (length rec.now ≡ place_size) × (i < most_rejects) }
+fn reject_at_kept(rec: &[u8; PLACE_OCTETS], n: usize, i: usize) -> bool
+    requires { i < most_rejects }
     ensures { result ≡ reject_at_kept n i rec.now }
 {
     let a = REJECTS + 2 * i;
@@ -209,8 +208,7 @@ fn reject_at_kept(rec: &[u8], n: usize, i: usize) -> bool
 }
 
 // Each of the eight rejects, of which n wait.
-fn each_reject_kept(rec: &[u8], n: usize) -> bool
-    requires { length rec.now ≡ place_size }
+fn each_reject_kept(rec: &[u8; PLACE_OCTETS], n: usize) -> bool
     ensures { result ≡ rejects_kept n (rejects_from 0 rec.now) }
 {
     let mut i: usize = 0;
@@ -225,8 +223,7 @@ fn each_reject_kept(rec: &[u8], n: usize) -> bool
 }
 
 // The eight rejects, of which n wait; where none does, two words say so.
-fn rejects_kept(rec: &[u8], n: usize) -> bool
-    requires { length rec.now ≡ place_size }
+fn rejects_kept(rec: &[u8; PLACE_OCTETS], n: usize) -> bool
     ensures { result ≡ rejects_kept n (rejects_from 0 rec.now) }
 {
     if n == 0 {
@@ -266,8 +263,7 @@ fn has_peer(state: u8) -> bool
 }
 
 // "a peer ID has 1 to 4 octets in Received and Active and none in Open and Sent"
-fn peer_kept(rec: &[u8]) -> bool
-    requires { length rec.now ≡ place_size }
+fn peer_kept(rec: &[u8; PLACE_OCTETS]) -> bool
     ensures { result ≡ peer_kept (control_by rec.now) }
 {
     let n = table_fields::peer_length(rec);
@@ -288,8 +284,7 @@ fn peer_kept(rec: &[u8]) -> bool
 }
 
 // A dialogue's control record but its rejects: "states, services .. and lengths are in range".
-fn head_kept(rec: &[u8]) -> bool
-    requires { length rec.now ≡ place_size }
+fn head_kept(rec: &[u8; PLACE_OCTETS]) -> bool
     ensures { result ≡ head_kept rec.now }
 {
     if table_fields::state(rec) > DIALOGUE_ACTIVE {
@@ -329,8 +324,8 @@ fn waiting_kept(w: &[u8]) -> bool
 }
 
 // What waits at a place with n waiting octets, and the zeros after it.
-fn octets_kept(rec: &[u8], n: usize) -> bool
-    requires { (length rec.now ≡ place_size) × (n ≤ most_waiting) }
+fn octets_kept(rec: &[u8; PLACE_OCTETS], n: usize) -> bool
+    requires { n ≤ most_waiting }
     ensures { result ≡ octets_kept n rec.now }
 {
     if n == 0 {
@@ -344,8 +339,7 @@ fn octets_kept(rec: &[u8], n: usize) -> bool
 }
 
 // Its rejects and its waiting octets; where it has neither, one run of zeros.
-fn tail_kept(rec: &[u8]) -> bool
-    requires { length rec.now ≡ place_size }
+fn tail_kept(rec: &[u8; PLACE_OCTETS]) -> bool
     ensures { result ≡ tail_kept rec.now }
 {
     let n = table_fields::waiting_length(rec) as usize;
@@ -365,8 +359,7 @@ fn tail_kept(rec: &[u8]) -> bool
 }
 
 // A place with a dialogue, whose bit of the map is clear.
-fn used_kept(rec: &[u8]) -> bool
-    requires { length rec.now ≡ place_size }
+fn used_kept(rec: &[u8; PLACE_OCTETS]) -> bool
     ensures { result ≡ used_kept rec.now 0 }
 {
     if head_kept(rec) {

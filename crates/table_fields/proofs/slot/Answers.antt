@@ -8,4 +8,4 @@ unfolding slot
 returns c =
     let a : ℕ = place_start c.args.p in
     let first = rw c.unwrap.ensures at c.first_chunk.ensures.cases in
-    first.same ∙ take-take place_size (a + place_size - a) (drop a c.args.t.now) (omega arith)
+    record { is = first.same ∙ take-take place_size (a + place_size - a) (drop a c.args.t.now) (omega arith) }

@@ -23,4 +23,4 @@ returns-else-invocation_at_kept c =
 
 pub returns : goal.returns
 returns c =
-    sym (c.loop-i.invariant.1 ∙ kept-end c.args.rec.now c.args.n c.loop-i.i c.requires.1 (omega arith))
+    sym (c.loop-i.invariant.1 ∙ kept-end c.args.rec.now c.args.n c.loop-i.i c.requires (omega arith))

@@ -17,11 +17,11 @@ unfolding reject_at_kept
 returns-then-id-ne0 c =
     let id : ℕ = get_or c.args.rec.now (first_reject + 2 * c.args.i) 0 in
     let o : ℕ = get_or c.args.rec.now (first_reject + 2 * c.args.i + 1) 0 in
-    ge _ _ _ _ (omega arith) (zero-not id o (omega (arith, c.shared_slice_known-3-1.given (first_reject + 2 * c.args.i + 1))) c.if-id-ne0.true)
+    ge _ _ _ _ (omega arith) (zero-not id o (omega arith) c.if-id-ne0.true)
 
 pub returns : goal.returns
 unfolding reject_at_kept
 returns c =
     let id : ℕ = get_or c.args.rec.now (first_reject + 2 * c.args.i) 0 in
     let o : ℕ = get_or c.args.rec.now (first_reject + 2 * c.args.i + 1) 0 in
-    ge _ _ _ _ (omega arith) (zero_is id o (omega (arith, c.shared_slice_known-3-1.given (first_reject + 2 * c.args.i + 1))) (omega arith))
+    ge _ _ _ _ (omega arith) (zero_is id o (omega arith) (omega arith))

@@ -7,7 +7,7 @@ use Rattle.table_rules.proofs.tail_kept.Goals as goal
 
 pub returns-then-k-eq0 : goal.returns-then-k-eq0
 returns-then-k-eq0 c =
-    c.zeros_from.ensures ∙ tail_none c.args.rec.now (λ i. omega (arith, c.shared_slice_known-1.given i)) (omega arith) (omega arith) (omega arith)
+    c.zeros_from.ensures ∙ tail_none c.args.rec.now (λ i. omega arith) (omega arith) (omega arith) (omega arith)
 
 pub returns-then-n-gt-MOST_WAITING : goal.returns-then-n-gt-MOST_WAITING
 unfolding tail_kept

@@ -22,4 +22,4 @@ loop-k-preserved c =
 
 pub returns : goal.returns
 returns c =
-    sym (c.loop-k.invariant.1 ∙ open-end c.args.rec.now c.args.n c.loop-k.k c.requires.2 (omega arith) c.args.id)
+    sym (c.loop-k.invariant.1 ∙ open-end c.args.rec.now c.args.n c.loop-k.k c.requires.1 (omega arith) c.args.id)
