@@ -1,24 +1,35 @@
 use native.Mathlib.Omega.{arith}
+use mathlib.Core.Path.{refl}
+use Rattle.std.proofs.Common.{rules}
+use Rattle.std.specs.Prelude.{Result}
+use Rattle.paper.specs.Calls.Call.{Receive}
+use Rattle.paper.specs.Outcome.{Lent, outcome}
+use Rattle.paper.specs.declared.Refusal.{Refusal}
+use Rattle.call_entry.specs.Replies.{Ends, above-zero, passed_up}
 use Rattle.call_receive.specs.Ends.{receive-refused, no-octets, too_many, is-done}
-use Rattle.call_receive.proofs.receive.Goals as goal
+use Rattle.call_receive.proofs.try_receive.Goals.{then-is_empty-via-then-is_empty, then-is_empty-via-else-is_empty+then-message-gt-LONGEST_MESSAGE}
+use Rattle.call_receive.proofs.try_receive.Goals as goal
 
-pub returns-then-answer-ne0 : goal.returns-then-answer-ne0
-returns-then-answer-ne0 c =
-    receive-refused (record { table = c.args.table.now; rows = c.args.rows.now; space = c.args.space.now }) c.args.service c.args.message.now c.enter-e.result.answer c.enter-e.ensures.is (omega arith) c.refused.ensures
+pub returns-in_err-may : goal.returns-in_err-may
+returns-in_err-may c =
+    let l : Lent = record { table = c.args.table.now; rows = c.args.rows.now; space = c.args.space.now } in
+    let why : Refusal = c.in_err-may.field-0.0 in
+    passed_up (λ r. Ends (outcome l (Receive c.args.service c.args.message.now)) r l) c.from_residual.result why c.from_residual.ensures.1
+    (receive-refused l c.args.service c.args.message.now _ c.in_err-may.ensures.is (above-zero why) refl)
 
-pub returns-then-n-eq0 : goal.returns-then-n-eq0
-returns-then-n-eq0 c =
-    no-octets (record { table = c.args.table.now; rows = c.args.rows.now; space = c.args.space.now }) c.args.service c.args.message.now (c.enter-e.ensures.inside c.if-answer-ne0.false).within (omega arith) c.refused-then-n-eq0.ensures
-
-pub returns-then-n-gt-LONGEST_MESSAGE : goal.returns-then-n-gt-LONGEST_MESSAGE
-returns-then-n-gt-LONGEST_MESSAGE c =
-    too_many (record { table = c.args.table.now; rows = c.args.rows.now; space = c.args.space.now }) c.args.service c.args.message.now (c.enter-e.ensures.inside c.if-answer-ne0.false).within (omega arith) c.refused-then-n-gt-LONGEST_MESSAGE.ensures
+pub returns-then-is_empty : goal.returns-then-is_empty
+returns-then-is_empty c =
+    let l : Lent = record { table = c.args.table.now; rows = c.args.rows.now; space = c.args.space.now } in
+    elim c.then-is_empty.branch [
+      then-is_empty-via-then-is_empty w ↦ no-octets l c.args.service c.args.message.now c.in_ok-may.ensures.inside.within (search rules) refl
+    | then-is_empty-via-else-is_empty+then-message-gt-LONGEST_MESSAGE w ↦ too_many l c.args.service c.args.message.now c.in_ok-may.ensures.inside.within (omega arith) refl
+    ]
 
 pub receive-r-requires : goal.receive-r-requires
 receive-r-requires c =
-    let i = c.enter-e.ensures.inside c.if-answer-ne0.false in
-    (record { ready = i.ready; service = i.within.service; is = c.enter-e.ensures.may c.if-answer-ne0.false; there = i.there }, omega arith, omega arith, i.within.long.0, i.within.long.1)
+    let i = c.in_ok-may.ensures.inside in
+    (record { ready = i.ready; service = i.within.service; is = c.in_ok-may.ensures.may; there = i.there }, search rules, omega arith, i.within.long.0, i.within.long.1)
 
 pub returns : goal.returns
 returns c =
-    is-done (record { table = c.args.table.now; rows = c.args.rows.now; space = c.args.space.now }) c.args.service c.args.message.now (c.enter-e.ensures.inside c.if-answer-ne0.false).within (omega (arith, c.if-n-eq0.false)) (omega (arith, c.if-n-gt-LONGEST_MESSAGE.false)) c.receive-r.ensures c.done.ensures
+    is-done (record { table = c.args.table.now; rows = c.args.rows.now; space = c.args.space.now }) c.args.service c.args.message.now c.in_ok-may.ensures.inside.within (search rules) (omega (arith, c.if-message-gt-LONGEST_MESSAGE.false)) c.receive-r.ensures refl
