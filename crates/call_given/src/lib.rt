@@ -24,14 +24,11 @@ pub fn is_element(l: &[u8], left: usize) -> bool
 }
 
 // An operation or an error.
+#[tactic(auto, unfolding(paper::specs::Dialogues::is_code, laws::specs::If::if_eq))]
 pub fn is_code(l: &[u8]) -> bool
     ensures { result ≡ is_code l.now }
 {
-    let n = l.len();
-    if n == 0 {
-        return false;
-    }
-    return reading_components::code_end(l, n, 0) == n;
+    reading_components::code_end(l, l.len(), 0) == Some(l.len())
 }
 
 // A parameter of an invoke or error, or none.

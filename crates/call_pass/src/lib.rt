@@ -19,6 +19,7 @@ use paper::{
     DIALOGUE_OPEN, FIRST_WAITING, IDLE, Invocation, MOST_INVOCATIONS, MOST_WAITING, NO_ID, PENDING,
     PLACE_OCTETS, REJECTING,
 };
+use reading_problems::Party;
 
 // WHAT IS PASSED, by its numbers. The operation or error, and the parameter, stand beside it as octets; a reject has neither.
 #[derive(Clone, Copy)]
@@ -100,8 +101,10 @@ fn reject_refusal(state: u8, l: [Invocation; 8], n: usize, id: u8, problem: u32)
     if state == DIALOGUE_OPEN {
         return 6;
     }
-    if reading_problems::sender(problem / 256, problem % 256) != 1 {
-        return 8;
+    match reading_problems::sender(problem / 256, problem % 256) {
+        Some(Party::User) => {}
+        Some(Party::SubLayer) => return 8,
+        None => return 8,
     }
     let v = dialogue_invocations::invocation_of(l, id as u32);
     if dialogue_invocations::may_reject(problem / 256, v) {

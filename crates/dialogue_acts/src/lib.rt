@@ -12,6 +12,7 @@ use paper::{
     ROW_INVOKE, ROW_LAST, ROW_NOT_LAST, ROW_NOT_STORED, ROW_REJECTED, ROW_REMOTE_REJECT,
     ROW_USER_REJECT, Reject, SENT, WAIT,
 };
+use reading_problems::Party;
 
 // What is told of a component: its row's kind and problem, and the slot of ours that changes, with what it then holds; slot 8 for none.
 // Where the kind is 13, a reject waits besides.
@@ -190,15 +191,15 @@ fn release(l: [Invocation; 8], id: u32, kind: u32, problem: u32) -> Told
 }
 
 // U-REJECT or R-REJECT, by who sends the problem.
+#[tactic(auto, unfolding(paper::specs::Invocations::reject_kind, laws::specs::If::if_eq))]
 fn reject_kind(problem: u32) -> u32
     ensures is { result ≡ reject_kind problem }
     ensures low { result < 13 }
 {
-    let sender = reading_problems::sender(problem / 256, problem % 256);
-    if sender == 1 {
-        return ROW_USER_REJECT;
+    match reading_problems::sender(problem / 256, problem % 256) {
+        Some(Party::User) => ROW_USER_REJECT,
+        _ => ROW_REMOTE_REJECT,
     }
-    ROW_REMOTE_REJECT
 }
 
 // A reject received.
