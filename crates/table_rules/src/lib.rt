@@ -21,6 +21,7 @@ use paper::{
     PLACES_IN_ALL, PLACES_SHARED, REJECTING, REJECTS, Refusal, SERVICE, SERVICES, TABLE_OCTETS,
     WAITING,
 };
+use reading_problems::Party;
 
 // A word has eight octets: four invocations, or four rejects.
 const WORD: usize = 8;
@@ -177,16 +178,11 @@ fn reject_kept(id: u8, o: u8) -> bool
 {
     let kind = laws::number(o / 8 % 16);
     let code = laws::number(o % 8);
-    if reading_problems::sender(kind, code) != 0 {
-        return false;
+    match reading_problems::sender(kind, code) {
+        Some(Party::SubLayer) => o < 128 || id == 0 && kind == 0,
+        Some(Party::User) => false,
+        None => false,
     }
-    if o < 128 {
-        return true;
-    }
-    if id != 0 {
-        return false;
-    }
-    kind == 0
 }
 
 // The i-th reject, of which n wait.
