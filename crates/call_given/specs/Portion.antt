@@ -1,11 +1,14 @@
 -- NAME AND INFORMATION GIVEN with a sending (02 a; answers 11, 12 and 14), by the number of waiting octets. Assumes nothing.
-use Rattle.std.specs.Prelude.{◌≡◌, Bool, true, false}
+use Rattle.std.specs.Prelude.{◌≡◌, Bool, true, false, Result, Ok, Err, IsErrAnd}
 use Rattle.std.proofs.Math.Path.{refl, sym, ap}
 use Rattle.std.proofs.Common.{◌∙◌, arith}
 use mathlib.Core.List.{List, []}
-use Prim.Native.Nat.{ℕ, ◌+◌, ◌≤◌}
+use Prim.Native.Nat.{ℕ, ◌+◌, ◌<◌, ◌≤◌}
 use Rattle.std.proofs.Math.ListN.{length}
 use Rattle.laws.specs.If.{if_eq, if_b, ge, eq, ne, yes, by-eq, was-yes, was-ge}
+use Rattle.paper.specs.declared.Refusal.{Refusal}
+use Rattle.paper.specs.declared.Refusal.TheVariants.{WrongSize, BrokenTable, NoService, MessageSize, NoDialogue, WrongState, NoPlace, WrongCode, WrongInvocation, InvocationsFull, WrongOctets, TooLong, WrongShares, WrongPortion}
+use Rattle.paper.specs.Refusals.{number, answer_of}
 use Rattle.paper.specs.Sizes.{most_waiting}
 use Rattle.paper.specs.Portions.{Form, portion_by}
 use Rattle.paper.specs.Dialogues.{Place, is_name, is_information, overfull, first, unplaced, portion_refusal}
@@ -32,6 +35,29 @@ module _ (n m : ℕ) where
   unfolding first
   first-zero k z e = by-eq n 0 m n e (λ y h. (y, sym z ∙ h)) (λ y h. absurd (y (sym h ∙ z)))
 
+pub above-zero : (why : Refusal) → 0 < number why
+above-zero WrongSize = omega arith
+above-zero BrokenTable = omega arith
+above-zero NoService = omega arith
+above-zero MessageSize = omega arith
+above-zero NoDialogue = omega arith
+above-zero WrongState = omega arith
+above-zero NoPlace = omega arith
+above-zero WrongCode = omega arith
+above-zero WrongInvocation = omega arith
+above-zero InvocationsFull = omega arith
+above-zero WrongOctets = omega arith
+above-zero TooLong = omega arith
+above-zero WrongShares = omega arith
+above-zero WrongPortion = omega arith
+
+-- a refusal that a `?` passes up is the first
+pub first-refusal : {T : Type 0} (n m : ℕ) (r : Result T Refusal) (why : Refusal) → IsErrAnd r (λ e. e ≡ why) → number why ≡ n → answer_of r ≡ first n m
+first-refusal n m (Ok x) why h g = absurd h
+first-refusal n m (Err e) why h g =
+    let k : number e ≡ n = ap number h ∙ g in
+    k ∙ first_some n m (λ z. omega (arith, above-zero e, k, z))
+
 first-malformed : (a b : Bool) (k : ℕ) → first (if_b a (if_b b 0 11) 11) k ≡ if_b a (if_b b k 11) 11
 unfolding first if_b if_eq
 first-malformed true true k = refl
@@ -55,20 +81,11 @@ portion-fits x f name info e =
     let c = first-zero _ _ 0 refl b.1 in
     (was-ge _ _ _ _ (sym c.0) (λ z. omega (arith, z))).0
 
--- BY ITS PARTS
+-- BY ITS PARTS: neither given, no portion and no refusal
 module _ (n state kind : ℕ) (name info : List ℕ) where
-  pub refusal-by : (a b c m r : ℕ) → a ≡ malformed name info → b ≡ over_by n (length (portion_by (form_for kind) name info)) → c ≡ unplaced state name info
-      → m ≡ first b c → r ≡ first a m → r ≡ refusal_of n state kind name info
-  unfolding refusal_of
-  refusal-by a b c m r h i j k l =
-      let over : ℕ = over_by n (length (portion_by (form_for kind) name info)) in
-      let later : m ≡ first over (unplaced state name info) = k ∙ ap (λ (k : ℕ). first k c) i ∙ ap (first over) j in
-      l ∙ ap (λ (k : ℕ). first k m) h ∙ ap (first (malformed name info)) later
-
-  -- neither given: no portion, and no refusal
   pub refusal-none : length name ≡ 0 → length info ≡ 0 → n ≤ most_waiting → 0 ≡ refusal_of n state kind name info
-  unfolding malformed is_name is_information unplaced portion_by
+  unfolding refusal_of malformed is_name is_information unplaced portion_by
   refusal-none a b h =
       let p : [] ≡ portion_by (form_for kind) name info = eq _ _ _ _ (omega arith) refl in
-      refusal-by 0 0 0 0 0 (yes _ _ _ (sym (eq _ _ _ _ a refl)) (yes _ _ _ (sym (eq _ _ _ _ b refl)) refl)) (ge _ _ _ _ (omega (arith, ap length p)) refl)
-      (eq _ _ _ _ a (eq _ _ _ _ b refl)) (first-none 0 0 0 refl refl) (first-none 0 0 0 refl refl)
+      first-none _ _ 0 (sym (yes _ _ _ (sym (eq _ _ _ _ a refl)) (yes _ _ _ (sym (eq _ _ _ _ b refl)) refl)))
+      (first-none _ _ 0 (sym (ge _ _ _ _ (omega (arith, ap length p)) refl)) (eq _ _ _ _ a (eq _ _ _ _ b refl)))

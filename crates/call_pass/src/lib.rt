@@ -9,15 +9,17 @@ ghost use Rattle.paper.specs.Components.{no_id};
 ghost use Rattle.paper.specs.Problems.{kind_of};
 ghost use Rattle.paper.specs.Invocations.{slot_of, idle_slot};
 ghost use Rattle.paper.specs.Dialogues.{Place, refusal as refusal_of, invoke_refusal, result_refusal, error_refusal, reject_refusal};
+ghost use Rattle.paper.specs.Refusals.{answer_of};
 ghost use Rattle.paper.specs.Calls.Call.{OnDialogue};
 ghost use Rattle.paper.specs.Outcome.{Gives, outcome};
+ghost use Rattle.call_entry.specs.Replies.{Ends, only};
 ghost use Rattle.call_pass.specs.Refusing.{front_of};
 ghost use Rattle.call_pass.specs.Passings.{passing, octets_of, with_new, with_rejected, invocations_after, Leaves, linked_of, Acts, Writing};
 
-use call_entry::{NO_SPACE, Reply};
+use call_entry::{Effect, Reply, Spaces};
 use paper::{
-    DIALOGUE_OPEN, FIRST_WAITING, IDLE, Invocation, MOST_INVOCATIONS, MOST_WAITING, NO_ID, PENDING,
-    PLACE_OCTETS, REJECTING,
+    DIALOGUE_OPEN, FIRST_WAITING, IDLE, Invocation, MOST_INVOCATIONS, NO_ID, PENDING, PLACE_OCTETS,
+    REJECTING, Refusal,
 };
 
 // WHAT IS PASSED, by its numbers. The operation or error, and the parameter, stand beside it as octets; a reject has neither.
@@ -34,88 +36,100 @@ pub enum Passing {
 }
 
 // ---- REFUSED, by a dialogue's state, its invocations and the number of octets that wait
+#[tactic(auto, unfolding(crate::specs::Refusing::front_of, laws::specs::If::if_eq))]
 fn front_of(linked: u32) -> usize
     ensures { result ≡ front_of linked }
 {
-    if linked == NO_ID {
-        return 3;
-    }
-    return 6;
+    if linked == NO_ID { 3 } else { 6 }
 }
 
 fn invoke_refusal(
-    l: [Invocation; 8],
+    l: [Invocation; MOST_INVOCATIONS],
     n: usize,
     id: u8,
     linked: u32,
     class: u32,
     op: &[u8],
     par: &[u8],
-) -> u32
+) -> Result<(), Refusal>
     requires { n ≤ most_waiting }
-    ensures { (x : Place) → x.control.invocations ≡ l → length x.waiting ≡ n → result ≡ invoke_refusal x id linked class op.now par.now }
+    ensures { (x : Place) → x.control.invocations ≡ l → length x.waiting ≡ n → answer_of result ≡ invoke_refusal x id linked class op.now par.now }
 {
-    if class < 1 {
-        return 8;
-    }
-    if class > 4 {
-        return 8;
+    if class < 1 || class > 4 {
+        return Err(Refusal::WrongCode);
     }
     let state = dialogue_invocations::state_of(l, id as u32);
     if state != IDLE {
-        return 9;
+        return Err(Refusal::WrongInvocation);
     }
     let i = dialogue_invocations::idle_slot(l);
     if i == MOST_INVOCATIONS {
-        return 10;
+        return Err(Refusal::InvocationsFull);
     }
     let front = front_of(linked);
-    return call_given::pieces_refusal(n, front, op, par);
+    call_given::pieces_refusal(n, front, op, par)
 }
 
-fn result_refusal(state: u8, n: usize, tag: u8, id: u8, op: &[u8], par: &[u8]) -> u32
+fn result_refusal(
+    state: u8,
+    n: usize,
+    tag: u8,
+    id: u8,
+    op: &[u8],
+    par: &[u8],
+) -> Result<(), Refusal>
     requires { n ≤ most_waiting }
-    ensures { (x : Place) → x.control.state ≡ state → length x.waiting ≡ n → result ≡ result_refusal x tag id op.now par.now }
+    ensures { (x : Place) → x.control.state ≡ state → length x.waiting ≡ n → answer_of result ≡ result_refusal x tag id op.now par.now }
 {
     if state == DIALOGUE_OPEN {
-        return 6;
+        return Err(Refusal::WrongState);
     }
-    return call_given::both_refusal(n, op, par);
+    call_given::both_refusal(n, op, par)
 }
 
-fn error_refusal(state: u8, n: usize, id: u8, err: &[u8], par: &[u8]) -> u32
+fn error_refusal(state: u8, n: usize, id: u8, err: &[u8], par: &[u8]) -> Result<(), Refusal>
     requires { n ≤ most_waiting }
-    ensures { (x : Place) → x.control.state ≡ state → length x.waiting ≡ n → result ≡ error_refusal x id err.now par.now }
+    ensures { (x : Place) → x.control.state ≡ state → length x.waiting ≡ n → answer_of result ≡ error_refusal x id err.now par.now }
 {
     if state == DIALOGUE_OPEN {
-        return 6;
+        return Err(Refusal::WrongState);
     }
-    return call_given::pieces_refusal(n, 3, err, par);
+    call_given::pieces_refusal(n, 3, err, par)
 }
 
-fn reject_refusal(state: u8, l: [Invocation; 8], n: usize, id: u8, problem: u32) -> u32
+fn reject_refusal(
+    state: u8,
+    l: [Invocation; MOST_INVOCATIONS],
+    n: usize,
+    id: u8,
+    problem: u32,
+) -> Result<(), Refusal>
     requires { n ≤ most_waiting }
-    ensures { (x : Place) → x.control.state ≡ state → x.control.invocations ≡ l → length x.waiting ≡ n → result ≡ reject_refusal x id problem }
+    ensures { (x : Place) → x.control.state ≡ state → x.control.invocations ≡ l → length x.waiting ≡ n → answer_of result ≡ reject_refusal x id problem }
 {
     if state == DIALOGUE_OPEN {
-        return 6;
+        return Err(Refusal::WrongState);
     }
     if reading_problems::sender(problem / 256, problem % 256) != 1 {
-        return 8;
+        return Err(Refusal::WrongCode);
     }
     let v = dialogue_invocations::invocation_of(l, id as u32);
-    if dialogue_invocations::may_reject(problem / 256, v) {
-        if n + 8 > MOST_WAITING {
-            return 12;
-        }
-        return 0;
+    if !dialogue_invocations::may_reject(problem / 256, v) {
+        return Err(Refusal::WrongInvocation);
     }
-    return 9;
+    call_given::over_by(n, 8)
 }
 
-fn refusal(state: u8, l: [Invocation; 8], n: usize, what: Passing, code: &[u8], par: &[u8]) -> u32
+fn refusal(
+    state: u8,
+    l: [Invocation; MOST_INVOCATIONS],
+    n: usize,
+    what: Passing,
+    code: &[u8],
+    par: &[u8],
+) -> Result<(), Refusal>
     requires { n ≤ most_waiting }
-    ensures { (x : Place) → x.control.state ≡ state → x.control.invocations ≡ l → length x.waiting ≡ n → result ≡ refusal_of x (passing what code.now par.now) }
+    ensures { (x : Place) → x.control.state ≡ state → x.control.invocations ≡ l → length x.waiting ≡ n → answer_of result ≡ refusal_of x (passing what code.now par.now) }
 {
     match what {
         Passing::AnInvoke(id, linked, class) => invoke_refusal(l, n, id, linked, class, code, par),
@@ -133,7 +147,7 @@ struct Slot {
 }
 
 // "Pending (passed)", in the first slot that is Idle.
-fn invoked(l: [Invocation; 8], id: u8, class: u32) -> Slot
+fn invoked(l: [Invocation; MOST_INVOCATIONS], id: u8, class: u32) -> Slot
     requires { (class ≤ 4) × (idle_slot l ≡ most_invocations → ⊥) }
     ensures { Leaves l result.at result.holds (with_new l id class) }
 {
@@ -144,19 +158,18 @@ fn invoked(l: [Invocation; 8], id: u8, class: u32) -> Slot
         state: PENDING,
         shown: 0,
     };
-    return Slot { at: i, holds: v };
+    Slot { at: i, holds: v }
 }
 
 // None is changed: the first holds what it held.
-fn unchanged(l: [Invocation; 8]) -> Slot
+fn unchanged(l: [Invocation; MOST_INVOCATIONS]) -> Slot
     ensures { Leaves l result.at result.holds l }
 {
-    let v = l[0];
-    return Slot { at: 0, holds: v };
+    Slot { at: 0, holds: l[0] }
 }
 
 // "Rejecting until transmitted"; an invoke's reject changes no invocation of ours.
-fn rejected_by(l: [Invocation; 8], id: u8, problem: u32) -> Slot
+fn rejected_by(l: [Invocation; MOST_INVOCATIONS], id: u8, problem: u32) -> Slot
     requires { (kind_of problem ≡ 1 → ⊥) → slot_of l id < most_invocations }
     ensures { Leaves l result.at result.holds (with_rejected l id problem) }
 {
@@ -166,10 +179,10 @@ fn rejected_by(l: [Invocation; 8], id: u8, problem: u32) -> Slot
     let i = dialogue_invocations::slot_of(l, id as u32);
     let mut v = l[i];
     v.state = REJECTING;
-    return Slot { at: i, holds: v };
+    Slot { at: i, holds: v }
 }
 
-fn acted(l: [Invocation; 8], what: Passing) -> Slot
+fn acted(l: [Invocation; MOST_INVOCATIONS], what: Passing) -> Slot
     requires { Acts l what }
     ensures { Leaves l result.at result.holds (invocations_after l what) }
 {
@@ -199,6 +212,30 @@ fn write(t: &mut [u8], at: usize, what: Passing, code: &[u8], par: &[u8]) -> usi
 }
 
 // ---- THE CALL
+fn try_pass(
+    table: &mut [u8],
+    service: u32,
+    dialogue: u32,
+    what: Passing,
+    code: &[u8],
+    parameter: &[u8],
+) -> Result<Effect, Refusal>
+    requires { linked_of what ≤ no_id }
+    ensures { Ends (outcome (only table.old) (OnDialogue service dialogue (passing what code.now parameter.now))) result (only table.new) }
+{
+    let p = call_entry::enter_at(table, Spaces::NONE, Spaces::NONE, service, dialogue)?;
+    let mut c = table_places::load(table, p);
+    let l = c.invocations;
+    let n = table_places::waiting_length(table, p);
+    refusal(c.state, l, n, what, code, parameter)?;
+    let s = acted(l, what);
+    c.invocations[s.at] = s.holds;
+    let a = FIRST_WAITING + p * PLACE_OCTETS;
+    let e = write(table, a + n, what, code, parameter);
+    table_places::put_control(table, p, c, (e - a) as u8);
+    Ok(Effect::NONE)
+}
+
 pub fn pass(
     table: &mut [u8],
     service: u32,
@@ -208,27 +245,7 @@ pub fn pass(
     parameter: &[u8],
 ) -> Reply
     requires { linked_of what ≤ no_id }
-    ensures { Gives (outcome (record { table = table.entry.now; rows = []; space = [] }) (OnDialogue service dialogue (passing what code.now parameter.now))) result.answer result.rows result.length result.dialogue (record { table = table.exit.now; rows = []; space = [] }) }
+    ensures { Gives (outcome (record { table = table.old; rows = []; space = [] }) (OnDialogue service dialogue (passing what code.now parameter.now))) result.answer result.rows result.length result.dialogue (record { table = table.new; rows = []; space = [] }) }
 {
-    let m = call_entry::enter_at(table, NO_SPACE, NO_SPACE, service, dialogue);
-    let answer = m.answer;
-    if answer != 0 {
-        return call_entry::refused(answer);
-    }
-    let p = m.place;
-    let mut c = table_places::load(table, p);
-    let l = c.invocations;
-    let n = table_places::waiting_length(table, p);
-    let why = refusal(c.state, l, n, what, code, parameter);
-    if why != 0 {
-        return call_entry::refused(why);
-    }
-    let s = acted(l, what);
-    let i = s.at;
-    let v = s.holds;
-    c.invocations[i] = v;
-    let a = FIRST_WAITING + p * PLACE_OCTETS;
-    let e = write(table, a + n, what, code, parameter);
-    table_places::put_control(table, p, c, (e - a) as u8);
-    return call_entry::done(0, 0);
+    Reply::from(try_pass(table, service, dialogue, what, code, parameter))
 }

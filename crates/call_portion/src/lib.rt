@@ -3,19 +3,32 @@
 
 ghost use Rattle.std.specs.Prelude.{[]};
 ghost use Rattle.paper.specs.Outcome.{Gives, portion_outcome};
+ghost use Rattle.call_entry.specs.Replies.{Ends};
+ghost use Rattle.call_portion.specs.Asked.{only_rows};
 
-use call_entry::Reply;
-use paper::LEAST_ROWS;
+use call_entry::{Effect, Reply};
+use paper::{LEAST_ROWS, Refusal};
 
 // The portion at a run of a message, as a row gives it.
-pub fn portion(message: &[u8], start: usize, len: usize, rows: &mut [u8]) -> Reply
-    ensures { Gives (portion_outcome rows.old message.now start len) result.answer result.rows result.length result.dialogue (record { table = []; rows = rows.new; space = [] }) }
+fn try_portion(
+    message: &[u8],
+    start: usize,
+    len: usize,
+    rows: &mut [u8],
+) -> Result<Effect, Refusal>
+    ensures { Ends (portion_outcome rows.old message.now start len) result (only_rows rows.new) }
 {
     if rows.len() < LEAST_ROWS {
-        return call_entry::refused(1);
+        return Err(Refusal::WrongSize);
     }
     let p = reading_portion::portion_at(message, start, len);
     let r = reading_portion::row_of(p);
     writing_rows::write_row(rows, 0, r);
-    return call_entry::done(1, 0);
+    Ok(Effect::ONE_ROW)
+}
+
+pub fn portion(message: &[u8], start: usize, len: usize, rows: &mut [u8]) -> Reply
+    ensures { Gives (portion_outcome rows.old message.now start len) result.answer result.rows result.length result.dialogue (record { table = []; rows = rows.new; space = [] }) }
+{
+    Reply::from(try_portion(message, start, len, rows))
 }

@@ -1,28 +1,30 @@
 // The requests that send a message (01, "Dialogue states"): each refused by its number, or the message written and the table changed.
 #![tactic(auto)]
 
-ghost use Rattle.std.specs.Prelude.{◌≡◌, [], ◌+◌, ◌<◌, ◌≤◌, length};
+ghost use Rattle.std.specs.Prelude.{◌≡◌, [], ◌+◌, ◌≤◌, length};
 ghost use Rattle.laws.specs.Runs.{Wrote};
-ghost use Rattle.paper.specs.Sizes.{places_in_all, most_waiting, least_space};
+ghost use Rattle.paper.specs.Sizes.{most_waiting, least_space};
 ghost use Rattle.paper.specs.Portions.{portion_by};
 ghost use Rattle.paper.specs.Dialogues.{first, portion_refusal, sent_components, abort_portion};
 ghost use Rattle.paper.specs.Dialogues.Request.{Abort};
+ghost use Rattle.paper.specs.Refusals.{answer_of};
 ghost use Rattle.paper.specs.Calls.{place_at, with_place};
 ghost use Rattle.paper.specs.Calls.Call.{OnDialogue};
 ghost use Rattle.paper.specs.Layout.{encode, view};
 ghost use Rattle.paper.specs.Outcome.{Gives, outcome};
 ghost use Rattle.table_laws.specs.Fine.{FineControl};
-ghost use Rattle.table_laws.specs.Ready.{Ready};
 ghost use Rattle.writing_octets.specs.Heads.{front_head};
 ghost use Rattle.writing_octets.specs.Lengths.{Room};
 ghost use Rattle.writing_portions.specs.Forms.{form_for};
+ghost use Rattle.call_entry.specs.Replies.{Ends, with_space};
 ghost use Rattle.call_send_parts.specs.Sent.{Holds};
 ghost use Rattle.call_send.specs.Sendings.{open_refusal, peer_refusal, abort_by, portion_kind, state_refusal, tag_for, ids_for, message_for, place_after, sending};
 ghost use Rattle.call_send.specs.Messages.{Follows, rest, rest_size};
 
-use call_entry::{MESSAGE_SPACE, Reply, Spaces};
+use call_entry::{Effect, Reply, Spaces};
 use paper::{
     AARE, AARQ, AUDT, Control, DIALOGUE_ACTIVE, DIALOGUE_OPEN, DIALOGUE_RECEIVED, DIALOGUE_SENT,
+    Refusal,
 };
 
 // The four messages that carry components.
@@ -47,32 +49,31 @@ fn portion_kind(k: Sending) -> u8
 }
 
 // "Begin (to Sent) and Unidirectional (frees) need Open."
-fn open_refusal(state: u8) -> u32
-    ensures { result ≡ open_refusal state }
+#[tactic(auto, unfolding(laws::specs::If::if_eq))]
+fn open_refusal(state: u8) -> Result<(), Refusal>
+    ensures { answer_of result ≡ open_refusal state }
 {
-    if state == DIALOGUE_OPEN {
-        return 0;
+    if state != DIALOGUE_OPEN {
+        return Err(Refusal::WrongState);
     }
-    return 6;
+    Ok(())
 }
 
 // "Continue (to Active) and basic end (frees) need Received or Active."
-fn peer_refusal(state: u8) -> u32
-    ensures { result ≡ peer_refusal state }
+#[tactic(auto, unfolding(paper::specs::Dialogues::has_peer, laws::specs::If::if_eq, laws::specs::If::if_b))]
+fn peer_refusal(state: u8) -> Result<(), Refusal>
+    ensures { answer_of result ≡ peer_refusal state }
 {
-    if state == DIALOGUE_RECEIVED {
-        return 0;
+    match state {
+        DIALOGUE_RECEIVED | DIALOGUE_ACTIVE => Ok(()),
+        _ => Err(Refusal::WrongState),
     }
-    if state == DIALOGUE_ACTIVE {
-        return 0;
-    }
-    return 6;
 }
 
 // Unidirectional is refused too with no component or with one not of class 4.
-fn state_refusal(t: &[u8], p: usize, c: Control, k: Sending) -> u32
+fn state_refusal(t: &[u8], p: usize, c: Control, k: Sending) -> Result<(), Refusal>
     requires { Holds t.now p c }
-    ensures { result ≡ state_refusal k (place_at (view t.now) p) }
+    ensures { answer_of result ≡ state_refusal k (place_at (view t.now) p) }
 {
     match k {
         Sending::ABegin => open_refusal(c.state),
@@ -86,20 +87,18 @@ fn state_refusal(t: &[u8], p: usize, c: Control, k: Sending) -> u32
 fn refusal_with(
     t: &[u8],
     p: usize,
-    state: u8,
-    early: u32,
+    c: Control,
+    k: Sending,
     kind: u8,
     name: &[u8],
     information: &[u8],
-) -> u32
-    requires { Ready t.now × (p < places_in_all) × (state ≡ (place_at (view t.now) p).control.state) × (kind ≡ 4 → ⊥) }
-    ensures { result ≡ first early (portion_refusal (place_at (view t.now) p) (form_for kind) name.now information.now) }
+) -> Result<(), Refusal>
+    requires { Holds t.now p c × (kind ≡ 4 → ⊥) }
+    ensures { answer_of result ≡ first (state_refusal k (place_at (view t.now) p)) (portion_refusal (place_at (view t.now) p) (form_for kind) name.now information.now) }
 {
-    if early != 0 {
-        return early;
-    }
+    state_refusal(t, p, c, k)?;
     let n = table_places::waiting_length(t, p);
-    return call_given::portion_refusal(n, state, kind, name, information);
+    call_given::portion_refusal(n, c.state, kind, name, information)
 }
 
 // What follows a message's IDs: the octets of its dialogue portion; whether the waiting rejects go; the octets of components.
@@ -116,11 +115,11 @@ fn what_follows(t: &[u8], p: usize, c: Control, kind: u8, name: &[u8], informati
 {
     let q = writing_portions::portion_size(kind, name.len(), information.len());
     let s = call_send_parts::sent_of(t, p, c, q);
-    return Follow {
+    Follow {
         portion: q,
         fits: s.fits,
         length: s.length,
-    };
+    }
 }
 
 // The octets after the IDs, the 6C's head counted.
@@ -148,7 +147,7 @@ fn write_given(
     if q == 0 {
         return at;
     }
-    return writing_portions::write_portion(out, at, kind, name, information);
+    writing_portions::write_portion(out, at, kind, name, information)
 }
 
 // What follows the IDs of each of the four messages: its dialogue portion, the 6C's head, what is sent.
@@ -169,7 +168,7 @@ fn write_rest(
     let a = write_given(out, at, kind, name, information, f.portion);
     let n = f.length;
     let b = writing_messages::write_components(out, a, n);
-    return call_send_parts::write_sent(out, b, t, p, c, f.fits);
+    call_send_parts::write_sent(out, b, t, p, c, f.fits)
 }
 
 // A message up to its IDs, where m octets follow them.
@@ -205,7 +204,7 @@ fn write_message(
 {
     let m = rest_size(f);
     let a = write_front(out, k, dialogue, c, m);
-    return write_rest(out, a, t, p, c, kind, name, information, f);
+    write_rest(out, a, t, p, c, kind, name, information, f)
 }
 
 // "Begin (to Sent) ..; Continue (to Active) and basic end (frees)"; "Unidirectional (frees)"; "An end drops what it didn't send."
@@ -221,6 +220,34 @@ fn leave(t: &mut [u8], p: usize, c: Control, k: Sending, fits: bool)
     }
 }
 
+fn try_send(
+    table: &mut [u8],
+    service: u32,
+    dialogue: u32,
+    k: Sending,
+    name: &[u8],
+    information: &[u8],
+    space: &mut [u8],
+) -> Result<Effect, Refusal>
+    ensures { Ends (outcome (with_space table.old space.old) (OnDialogue service dialogue (sending k name.now information.now))) result (with_space table.new space.new) }
+{
+    let lent = Spaces {
+        rows: 0,
+        space: space.len(),
+    };
+    let p = call_entry::enter_at(table, lent, Spaces::MESSAGE, service, dialogue)?;
+    let c = table_places::load(table, p);
+    let kind = portion_kind(k);
+    refusal_with(table, p, c, k, kind, name, information)?;
+    let f = what_follows(table, p, c, kind, name, information);
+    let e = write_message(space, table, p, c, k, kind, dialogue, name, information, f);
+    leave(table, p, c, k, f.fits);
+    Ok(Effect {
+        length: e as u32,
+        ..Effect::NONE
+    })
+}
+
 pub fn send(
     table: &mut [u8],
     service: u32,
@@ -230,29 +257,9 @@ pub fn send(
     information: &[u8],
     space: &mut [u8],
 ) -> Reply
-    ensures { Gives (outcome (record { table = table.entry.now; rows = []; space = space.old }) (OnDialogue service dialogue (sending k name.now information.now))) result.answer result.rows result.length result.dialogue (record { table = table.exit.now; rows = []; space = space.new }) }
+    ensures { Gives (outcome (record { table = table.old; rows = []; space = space.old }) (OnDialogue service dialogue (sending k name.now information.now))) result.answer result.rows result.length result.dialogue (record { table = table.new; rows = []; space = space.new }) }
 {
-    let lent = Spaces {
-        rows: 0,
-        space: space.len(),
-    };
-    let m = call_entry::enter_at(table, lent, MESSAGE_SPACE, service, dialogue);
-    let answer = m.answer;
-    if answer != 0 {
-        return call_entry::refused(answer);
-    }
-    let p = m.place;
-    let c = table_places::load(table, p);
-    let kind = portion_kind(k);
-    let early = state_refusal(table, p, c, k);
-    let refusal = refusal_with(table, p, c.state, early, kind, name, information);
-    if refusal != 0 {
-        return call_entry::refused(refusal);
-    }
-    let f = what_follows(table, p, c, kind, name, information);
-    let e = write_message(space, table, p, c, k, kind, dialogue, name, information, f);
-    leave(table, p, c, k, f.fits);
-    return call_entry::done(0, e as u32);
+    Reply::from(try_send(table, service, dialogue, k, name, information, space))
 }
 
 // A user's Abort: it "writes a message only in Received and Active".
@@ -261,17 +268,43 @@ fn write_abort(out: &mut [u8], c: Control, portion: &[u8]) -> usize
     ensures is { Wrote out.old 0 (abort_by c portion.now) result out.new }
     ensures within { result ≤ least_space }
 {
-    if peer_refusal(c.state) != 0 {
-        return 0;
+    match peer_refusal(c.state) {
+        Err(_) => 0,
+        Ok(()) => {
+            let peer = c.peer;
+            let m = call_send_parts::abort_size(portion);
+            let a = writing_messages::abort_front(out, 0, peer, c.peerlen as usize, m);
+            call_send_parts::write_aborted(out, a, portion)
+        }
     }
-    let peer = c.peer;
-    let m = call_send_parts::abort_size(portion);
-    let a = writing_messages::abort_front(out, 0, peer, c.peerlen as usize, m);
-    return call_send_parts::write_aborted(out, a, portion);
 }
 
 // "Prearranged end and user abort (both free): any; only abort takes a dialogue portion, a whole 6B element or none"; 02 a: or one BE
 // element, sent in an ABRT.
+fn try_send_abort(
+    table: &mut [u8],
+    service: u32,
+    dialogue: u32,
+    portion: &[u8],
+    space: &mut [u8],
+) -> Result<Effect, Refusal>
+    ensures { Ends (outcome (with_space table.old space.old) (OnDialogue service dialogue (Abort portion.now))) result (with_space table.new space.new) }
+{
+    let lent = Spaces {
+        rows: 0,
+        space: space.len(),
+    };
+    let p = call_entry::enter_at(table, lent, Spaces::MESSAGE, service, dialogue)?;
+    call_send_parts::abort_refusal(portion)?;
+    let c = table_places::load(table, p);
+    let e = write_abort(space, c, portion);
+    table_places::free_at(table, p);
+    Ok(Effect {
+        length: e as u32,
+        ..Effect::NONE
+    })
+}
+
 pub fn send_abort(
     table: &mut [u8],
     service: u32,
@@ -279,24 +312,7 @@ pub fn send_abort(
     portion: &[u8],
     space: &mut [u8],
 ) -> Reply
-    ensures { Gives (outcome (record { table = table.entry.now; rows = []; space = space.old }) (OnDialogue service dialogue (Abort portion.now))) result.answer result.rows result.length result.dialogue (record { table = table.exit.now; rows = []; space = space.new }) }
+    ensures { Gives (outcome (record { table = table.old; rows = []; space = space.old }) (OnDialogue service dialogue (Abort portion.now))) result.answer result.rows result.length result.dialogue (record { table = table.new; rows = []; space = space.new }) }
 {
-    let lent = Spaces {
-        rows: 0,
-        space: space.len(),
-    };
-    let m = call_entry::enter_at(table, lent, MESSAGE_SPACE, service, dialogue);
-    let answer = m.answer;
-    if answer != 0 {
-        return call_entry::refused(answer);
-    }
-    let refusal = call_send_parts::abort_refusal(portion);
-    if refusal != 0 {
-        return call_entry::refused(refusal);
-    }
-    let p = m.place;
-    let c = table_places::load(table, p);
-    let e = write_abort(space, c, portion);
-    table_places::free_at(table, p);
-    return call_entry::done(0, e as u32);
+    Reply::from(try_send_abort(table, service, dialogue, portion, space))
 }

@@ -7,6 +7,7 @@ ghost use Rattle.laws.specs.Lists.{every};
 ghost use Rattle.paper.specs.Sizes.{most_waiting};
 ghost use Rattle.paper.specs.Components.{components};
 ghost use Rattle.paper.specs.Dialogues.{of_class4, uni_refusal, is_abort, abort_portion, abort_refusal, waiting_rejects, sent_components, with_state, without_rejects, after_sending};
+ghost use Rattle.paper.specs.Refusals.{answer_of};
 ghost use Rattle.paper.specs.Calls.{place_at, with_place};
 ghost use Rattle.paper.specs.Layout.{encode, view};
 ghost use Rattle.table_laws.specs.Fine.{FineControl};
@@ -14,7 +15,10 @@ ghost use Rattle.writing_octets.specs.Lengths.{Room};
 ghost use Rattle.call_send_parts.specs.Refused.{class4, is_told};
 ghost use Rattle.call_send_parts.specs.Sent.{Holds, Sends, Sendable, control_after};
 
-use paper::{ABRT, Component, Control, DIALOGUE_OPEN, MOST_WAITING, NO_FAULT, Reject};
+use paper::{
+    ABRT, Component, Control, DIALOGUE_OPEN, INVOKE_TAG, MOST_REJECTS, MOST_WAITING, NO_FAULT,
+    Refusal, Reject,
+};
 
 // The octets of the waiting rejects.
 fn rejects_size(c: Control) -> usize
@@ -66,15 +70,16 @@ pub fn sent_of(t: &[u8], p: usize, c: Control, q: usize) -> Sent
     let w = table_places::waiting_length(t, p);
     let r = rejects_size(c);
     if q + w + r <= MOST_WAITING {
-        return Sent {
+        Sent {
             fits: true,
             length: w + r,
-        };
+        }
+    } else {
+        Sent {
+            fits: false,
+            length: w,
+        }
     }
-    return Sent {
-        fits: false,
-        length: w,
-    };
 }
 
 // "Sending writes waiting components in order", then the waiting rejects that fit.
@@ -84,29 +89,23 @@ pub fn write_sent(out: &mut [u8], at: usize, t: &[u8], p: usize, c: Control, fit
 {
     let w = table_places::waiting(t, p);
     let e = writing_octets::copy_at(out, at, w);
-    if fits {
-        return write_rejects(out, e, c);
-    }
-    return e;
+    if fits { write_rejects(out, e, c) } else { e }
 }
 
 fn in_state(c: Control, state: u8) -> Control
     ensures { result ≡ with_state c state }
 {
-    let mut d = c;
-    d.state = state;
-    d
+    Control { state, ..c }
 }
 
 fn without_rejects(c: Control) -> Control
     ensures { result ≡ without_rejects c }
 {
-    let w = Reject { id: 0, problem: 0 };
-    let rejects: [Reject; 8] = [w; 8];
-    let mut d = c;
-    d.count = 0;
-    d.rejects = rejects;
-    d
+    Control {
+        count: 0,
+        rejects: [Reject { id: 0, problem: 0 }; MOST_REJECTS],
+        ..c
+    }
 }
 
 // The control record that a sending leaves.
@@ -115,10 +114,7 @@ fn control_after(c: Control, state: u8, fits: bool) -> Control
 {
     let d = in_state(c, state);
     let e = dialogue_invocations::sent_out(d);
-    if fits {
-        return without_rejects(e);
-    }
-    return e;
+    if fits { without_rejects(e) } else { e }
 }
 
 // What a sending leaves of the dialogue at place p, in its new state.
@@ -131,18 +127,13 @@ pub fn leave_at(t: &mut [u8], p: usize, c: Control, state: u8, fits: bool)
 }
 
 // Whether a component is an invoke whose ID is open with class 4.
+#[tactic(auto, unfolding(paper::specs::Dialogues::of_class4, laws::specs::If::if_eq))]
 fn of_class4(c: Control, k: Component) -> bool
     ensures { result ≡ class4 c k }
 {
-    if k.fault != NO_FAULT {
-        return false;
-    }
-    if k.tag != 0xA1 {
-        return false;
-    }
-    let l = c.invocations;
-    let v = dialogue_invocations::invocation_of(l, k.id);
-    return v.class == 4;
+    k.fault == NO_FAULT
+        && k.tag == INVOKE_TAG
+        && dialogue_invocations::invocation_of(c.invocations, k.id).class == 4
 }
 
 // Whether each of the components is.
@@ -164,31 +155,26 @@ fn each_class4(w: &[u8], c: Control) -> bool
 }
 
 // "Unidirectional with no component or with one not of class 4" (6); it needs Open.
-pub fn uni_refusal(t: &[u8], p: usize, c: Control) -> u32
+pub fn uni_refusal(t: &[u8], p: usize, c: Control) -> Result<(), Refusal>
     requires { Holds t.now p c }
-    ensures { result ≡ uni_refusal (place_at (view t.now) p) }
+    ensures { answer_of result ≡ uni_refusal (place_at (view t.now) p) }
 {
     if c.state != DIALOGUE_OPEN {
-        return 6;
+        return Err(Refusal::WrongState);
     }
     let w = table_places::waiting(t, p);
-    if w.len() == 0 {
-        return 6;
+    if w.is_empty() || !each_class4(w, c) {
+        return Err(Refusal::WrongState);
     }
-    if each_class4(w, c) {
-        return 0;
-    }
-    return 6;
+    Ok(())
 }
 
 // Whether octets given with a user abort are user information (02 a): they begin with BE.
+#[tactic(auto, unfolding(crate::specs::Refused::is_told))]
 fn is_told(portion: &[u8]) -> bool
     ensures { result ≡ is_told portion.now }
 {
-    if portion.len() == 0 {
-        return false;
-    }
-    return portion[0] == 0xBE;
+    !portion.is_empty() && portion[0] == 0xBE
 }
 
 // The octets of an abort's dialogue portion: a whole 6B as it is given, user information in an ABRT.
@@ -197,9 +183,10 @@ pub fn abort_size(portion: &[u8]) -> usize
     ensures { result ≡ length (abort_portion portion.now) }
 {
     if is_told(portion) {
-        return writing_portions::portion_size(ABRT, 0, portion.len());
+        writing_portions::portion_size(ABRT, 0, portion.len())
+    } else {
+        portion.len()
     }
-    return portion.len();
 }
 
 // An abort's dialogue portion.
@@ -208,9 +195,10 @@ pub fn write_aborted(out: &mut [u8], at: usize, portion: &[u8]) -> usize
     ensures { Wrote out.old at (abort_portion portion.now) result out.new }
 {
     if is_told(portion) {
-        return writing_portions::write_portion(out, at, ABRT, &portion[..0], portion);
+        writing_portions::write_portion(out, at, ABRT, &portion[..0], portion)
+    } else {
+        writing_octets::copy_at(out, at, portion)
     }
-    return writing_octets::copy_at(out, at, portion);
 }
 
 // What a user abort may be given: one BE element, "a whole 6B element or none".
@@ -218,23 +206,21 @@ fn is_abort(portion: &[u8]) -> bool
     ensures { result ≡ is_abort portion.now }
 {
     if is_told(portion) {
-        return call_given::is_block(portion);
+        call_given::is_block(portion)
+    } else {
+        call_given::is_portion(portion)
     }
-    return call_given::is_portion(portion);
 }
 
 // A user abort's dialogue portion: not one well-formed element of its kind (11), over 240 octets (12).
-pub fn abort_refusal(portion: &[u8]) -> u32
-    ensures { result ≡ abort_refusal portion.now }
+pub fn abort_refusal(portion: &[u8]) -> Result<(), Refusal>
+    ensures { answer_of result ≡ abort_refusal portion.now }
 {
-    if is_abort(portion) {
-        if portion.len() > MOST_WAITING {
-            return 12;
-        }
-        if abort_size(portion) > MOST_WAITING {
-            return 12;
-        }
-        return 0;
+    if !is_abort(portion) {
+        return Err(Refusal::WrongOctets);
     }
-    return 11;
+    if portion.len() > MOST_WAITING || abort_size(portion) > MOST_WAITING {
+        return Err(Refusal::TooLong);
+    }
+    Ok(())
 }

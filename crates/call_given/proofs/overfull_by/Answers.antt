@@ -1,21 +1,19 @@
-use mathlib.Core.Path.{refl}
+use mathlib.Core.Path.{refl, sym, ap, ◌∙◌}
 use native.Mathlib.Omega.{arith}
-use Rattle.laws.specs.If.{lt, ge}
+use Rattle.laws.specs.If.{lt}
 use Rattle.writing_portions.specs.Spans.{portion-length, name-over, information-over}
+use Rattle.call_given.specs.Pieces.{over_by}
+use Rattle.call_given.proofs.overfull_by.Goals.{then-name-gt-MOST_WAITING-via-then-name-gt-MOST_WAITING, then-name-gt-MOST_WAITING-via-else-name-gt-MOST_WAITING+then-information-gt-MOST_WAITING}
 use Rattle.call_given.proofs.overfull_by.Goals as goal
 
 pub returns-then-name-gt-MOST_WAITING : goal.returns-then-name-gt-MOST_WAITING
-returns-then-name-gt-MOST_WAITING c =
-    lt _ _ _ _ (omega (arith, name-over c.args.kind c.args.name.now c.args.information.now c.requires.1 (omega (arith, c.if-name-gt-MOST_WAITING.true)))) refl
-
-pub returns-then-information-gt-MOST_WAITING : goal.returns-then-information-gt-MOST_WAITING
-returns-then-information-gt-MOST_WAITING c =
-    lt _ _ _ _ (omega (arith, information-over c.args.kind c.args.name.now c.args.information.now (omega (arith, c.if-information-gt-MOST_WAITING.true)))) refl
-
-pub returns-then-n-size-gt-MOST_WAITING : goal.returns-then-n-size-gt-MOST_WAITING
-returns-then-n-size-gt-MOST_WAITING c =
-    lt _ _ _ _ (omega (arith, c.if-n-size-gt-MOST_WAITING.true, c.portion_size-size.ensures.is, portion-length c.args.kind c.args.name.now c.args.information.now)) refl
+returns-then-name-gt-MOST_WAITING c = elim c.then-name-gt-MOST_WAITING.branch [
+  | then-name-gt-MOST_WAITING-via-then-name-gt-MOST_WAITING w ↦
+      lt _ _ _ _ (omega (arith, name-over c.args.kind c.args.name.now c.args.information.now c.requires.1 w.if-name-gt-MOST_WAITING.true)) refl
+  | then-name-gt-MOST_WAITING-via-else-name-gt-MOST_WAITING+then-information-gt-MOST_WAITING w ↦
+      lt _ _ _ _ (omega (arith, information-over c.args.kind c.args.name.now c.args.information.now w.if-information-gt-MOST_WAITING.true)) refl
+]
 
 pub returns : goal.returns
 returns c =
-    ge _ _ _ _ (omega (arith, c.if-n-size-gt-MOST_WAITING.false, c.portion_size-size.ensures.is, portion-length c.args.kind c.args.name.now c.args.information.now)) refl
+    c.over_by.ensures ∙ ap (over_by c.args.n) (c.portion_size-size.ensures.is ∙ sym (portion-length c.args.kind c.args.name.now c.args.information.now))

@@ -5,15 +5,15 @@ use Rattle.paper.specs.Invocations.{invocation_of, idle_slot}
 use Rattle.paper.specs.declared.Invocation.{Invocation}
 use Prim.Native.Nat.{ℕ, ◌≤◌}
 use mathlib.Core.Path.{sym, ap, subst, ◌∙◌}
+use Rattle.call_pass.proofs.invoke_refusal.Goals.{then-class-lt1-via-then-class-lt1, then-class-lt1-via-else-class-lt1+then-class-gt4}
 use Rattle.call_pass.proofs.invoke_refusal.Goals as goal
 
 pub returns-then-class-lt1 : goal.returns-then-class-lt1
 returns-then-class-lt1 c =
-    λ x e f. class_low x c.args.id c.args.linked c.args.class c.args.op.now c.args.par.now c.if-class-lt1.true
-
-pub returns-then-class-gt4 : goal.returns-then-class-gt4
-returns-then-class-gt4 c =
-    λ x e f. class-high x c.args.id c.args.linked c.args.class c.args.op.now c.args.par.now c.if-class-gt4.true
+    λ x e f. elim c.then-class-lt1.branch [
+      | then-class-lt1-via-then-class-lt1 w ↦ class_low x c.args.id c.args.linked c.args.class c.args.op.now c.args.par.now w.if-class-lt1.true
+      | then-class-lt1-via-else-class-lt1+then-class-gt4 w ↦ class-high x c.args.id c.args.linked c.args.class c.args.op.now c.args.par.now w.if-class-gt4.true
+    ]
 
 pub returns-then-state-ne-IDLE : goal.returns-then-state-ne-IDLE
 returns-then-state-ne-IDLE c =

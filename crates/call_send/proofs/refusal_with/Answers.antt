@@ -1,18 +1,23 @@
+use mathlib.Core.Path.{sym, ap}
+use Rattle.paper.specs.declared.Control.{Control}
 use Rattle.paper.specs.Dialogues.{Place, portion_refusal}
 use Rattle.paper.specs.Calls.{place_at}
 use Rattle.paper.specs.Layout.{view}
+use Rattle.paper.specs.Refusals.{answer_of}
 use Rattle.writing_portions.specs.Forms.{form_for}
-use Rattle.call_given.specs.Portion.{refusal_is, first-none, first_some}
+use Rattle.call_given.specs.Portion.{refusal_is, first-none, first-refusal}
+use Rattle.call_send.specs.Sendings.{state_refusal}
 use Rattle.call_send.proofs.refusal_with.Goals as goal
 
-pub returns-then-early-ne0 : goal.returns-then-early-ne0
-returns-then-early-ne0 c =
+pub returns-in_err-state_refusal : goal.returns-in_err-state_refusal
+returns-in_err-state_refusal c =
     let x : Place = place_at (view c.args.t.now) c.args.p in
-    first_some c.args.early (portion_refusal x (form_for c.args.kind) c.args.name.now c.args.information.now) c.if-early-ne0.true
+    first-refusal (state_refusal c.args.k x) (portion_refusal x (form_for c.args.kind) c.args.name.now c.args.information.now)
+    c.from_residual.result c.in_err-state_refusal.field-0.0 c.from_residual.ensures.1 c.in_err-state_refusal.ensures
 
 pub returns : goal.returns
 returns c =
     let x : Place = place_at (view c.args.t.now) c.args.p in
-    first-none c.args.early (portion_refusal x (form_for c.args.kind) c.args.name.now c.args.information.now) c.portion_refusal.result c.if-early-ne0.false
-    (refusal_is x c.waiting_length-n.result c.args.state c.args.kind c.portion_refusal.result c.args.name.now c.args.information.now c.waiting_length-n.ensures.0
-    c.requires.2 c.portion_refusal.ensures)
+    first-none (state_refusal c.args.k x) (portion_refusal x (form_for c.args.kind) c.args.name.now c.args.information.now) _ (sym c.in_ok-state_refusal.ensures)
+    (refusal_is x c.waiting_length-n.result c.args.c.state c.args.kind (answer_of c.portion_refusal.result) c.args.name.now c.args.information.now c.waiting_length-n.ensures.0
+    (ap (λ (k : Control). k.state) c.requires.0.control) c.portion_refusal.ensures)

@@ -5,11 +5,12 @@ use Rattle.laws.specs.If.{eq, ne}
 use Rattle.laws.specs.Runs.{wrote_none, wrote_as}
 use Rattle.paper.specs.Dialogues.{abort_portion}
 use Rattle.call_send.specs.Messages.{abort-room, abort-rest, abort-wrote}
+use Rattle.call_entry.specs.Replies.{above-zero}
 use Rattle.call_send.proofs.write_abort.Goals as goal
 
-pub returns-then-peer_refusal-ne0 : goal.returns-then-peer_refusal-ne0
-returns-then-peer_refusal-ne0 c =
-    record { is = wrote_as (wrote_none c.args.out.now 0) (ne _ _ _ _ (λ z. c.if-peer_refusal-ne0.true (c.peer_refusal.ensures ∙ z)) refl); within = omega arith }
+pub returns-in-Err : goal.returns-in-Err
+returns-in-Err c =
+    record { is = wrote_as (wrote_none c.args.out.now 0) (ne _ _ _ _ (λ z. omega (arith, above-zero c.in-Err.field-0, c.in-Err.ensures, z)) refl); within = omega arith }
 
 pub abort_front-a-requires : goal.abort_front-a-requires
 abort_front-a-requires c =
@@ -19,7 +20,7 @@ pub write_aborted-requires : goal.write_aborted-requires
 write_aborted-requires c =
     (c.requires.1, abort-rest c.args.c c.requires.0 (abort_portion c.args.portion.now) c.abort_size-m.result c.abort_size-m.ensures (omega (arith, c.abort_size-m.ensures, c.requires.2)) c.abort_front-a.ensures.is c.requires.3)
 
-pub returns : goal.returns
-returns c =
+pub returns-in-Ok : goal.returns-in-Ok
+returns-in-Ok c =
     let v = abort-wrote c.args.c c.requires.0 (abort_portion c.args.portion.now) c.abort_size-m.result c.abort_size-m.ensures (omega (arith, c.abort_size-m.ensures, c.requires.2)) c.abort_front-a.ensures.is c.write_aborted.ensures in
-    record { is = wrote_as v.0 (eq _ _ _ _ (sym c.peer_refusal.ensures ∙ c.if-peer_refusal-ne0.false) refl); within = v.1 }
+    record { is = wrote_as v.0 (eq _ _ _ _ (sym c.in-Ok.ensures) refl); within = v.1 }

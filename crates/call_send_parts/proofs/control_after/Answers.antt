@@ -9,6 +9,6 @@ returns-then-fits c =
     yes _ _ _ c.if-fits.true
     (c.without_rejects.ensures ∙ ap without_rejects (c.sent_out-e.ensures ∙ ap all_transmitted c.in_state-d.ensures))
 
-pub returns : goal.returns
-returns c =
+pub returns-else-fits : goal.returns-else-fits
+returns-else-fits c =
     no _ _ _ c.if-fits.false (c.sent_out-e.ensures ∙ ap all_transmitted c.in_state-d.ensures)

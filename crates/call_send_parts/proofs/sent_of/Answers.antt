@@ -18,8 +18,8 @@ returns-then-q-w-le-MOST_WAITING c =
     fits-is x c.args.q c.waiting_length-w.result c.rejects_size-r.result c.waiting_length-w.ensures.0
     (c.rejects_size-r.ensures.is ∙ ap (λ (k : Control). length (waiting_rejects k)) c.requires.0.control) (omega arith)
 
-pub returns : goal.returns
-returns c =
+pub returns-else-q-w-le-MOST_WAITING : goal.returns-else-q-w-le-MOST_WAITING
+returns-else-q-w-le-MOST_WAITING c =
     let x : Place = place_at (view c.args.t.now) c.args.p in
     fits_not x c.args.q c.waiting_length-w.result c.rejects_size-r.result c.waiting_length-w.ensures.0
     (c.rejects_size-r.ensures.is ∙ ap (λ (k : Control). length (waiting_rejects k)) c.requires.0.control) (omega arith) (omega arith)

@@ -18,6 +18,6 @@ pub copy_at-requires : goal.copy_at-requires
 copy_at-requires c =
     omega (arith, c.requires.1, ap length (abort-given c.args.portion.now (sym c.is_told.ensures ∙ c.if-is_told.false)))
 
-pub returns : goal.returns
-returns c =
+pub returns-else-is_told : goal.returns-else-is_told
+returns-else-is_told c =
     wrote_as c.copy_at.ensures (abort-given c.args.portion.now (sym c.is_told.ensures ∙ c.if-is_told.false))

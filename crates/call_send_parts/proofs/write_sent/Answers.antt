@@ -30,8 +30,8 @@ returns-then-fits c =
     (ap (λ (w : List ℕ). w ++ waiting_rejects c.args.c) c.waiting-w.ensures
     ∙ ap (λ (k : Control). x.waiting ++ waiting_rejects k) c.requires.0.control ∙ sent-all x c.args.fits c.if-fits.true)
 
-pub returns : goal.returns
-returns c =
+pub returns-else-fits : goal.returns-else-fits
+returns-else-fits c =
     let x : Place = place_at (view c.args.t.now) c.args.p in
     wrote_as c.copy_at-e.ensures
     (c.waiting-w.ensures ∙ sent-none x c.args.fits c.if-fits.false)
