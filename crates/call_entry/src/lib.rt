@@ -120,13 +120,8 @@ pub fn enter(t: &[u8], lent: Spaces, least: Spaces, service: u32) -> Result<bool
     if i >= SERVICES {
         return Err(Refusal::NoService);
     }
-    let counts = c.counts;
-    let count = laws::number(counts[i]);
     let share = table_shares::share_at(&t[GUARANTEES..LIMITS], &t[LIMITS..PLACES], i);
-    let guarantee = share.guarantee;
-    let limit = share.limit;
-    let may = table_shares::gives_place(count, guarantee, limit, c.unused, c.free);
-    Ok(may)
+    Ok(share.gives_place(u32::from(c.counts[i]), c.unused, c.free))
 }
 
 // The prologue of a call on a dialogue: refused by 5 too, or the dialogue's place.

@@ -29,8 +29,7 @@ pub fn is_element(l: &[u8], left: usize) -> bool
 pub fn is_code(l: &[u8]) -> bool
     ensures { result ≡ is_code l.now }
 {
-    let n = l.len();
-    n != 0 && reading_components::code_end(l, n, 0) == n
+    reading_components::code_end(l, l.len(), 0) == Some(l.len())
 }
 
 // A parameter of an invoke or error, or none.

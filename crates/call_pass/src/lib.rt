@@ -21,6 +21,7 @@ use paper::{
     DIALOGUE_OPEN, FIRST_WAITING, IDLE, Invocation, MOST_INVOCATIONS, NO_ID, PENDING, PLACE_OCTETS,
     REJECTING, Refusal,
 };
+use reading_problems::Party;
 
 // WHAT IS PASSED, by its numbers. The operation or error, and the parameter, stand beside it as octets; a reject has neither.
 #[derive(Clone, Copy)]
@@ -58,12 +59,11 @@ fn invoke_refusal(
     if class < 1 || class > 4 {
         return Err(Refusal::WrongCode);
     }
-    let state = dialogue_invocations::state_of(l, id as u32);
+    let state = dialogue_invocations::state_of(l, u32::from(id));
     if state != IDLE {
         return Err(Refusal::WrongInvocation);
     }
-    let i = dialogue_invocations::idle_slot(l);
-    if i == MOST_INVOCATIONS {
+    if dialogue_invocations::idle_slot(l).is_none() {
         return Err(Refusal::InvocationsFull);
     }
     let front = front_of(linked);
@@ -110,10 +110,10 @@ fn reject_refusal(
     if state == DIALOGUE_OPEN {
         return Err(Refusal::WrongState);
     }
-    if reading_problems::sender(problem / 256, problem % 256) != 1 {
+    let Some(Party::User) = reading_problems::sender(problem / 256, problem % 256) else {
         return Err(Refusal::WrongCode);
-    }
-    let v = dialogue_invocations::invocation_of(l, id as u32);
+    };
+    let v = dialogue_invocations::invocation_of(l, u32::from(id));
     if !dialogue_invocations::may_reject(problem / 256, v) {
         return Err(Refusal::WrongInvocation);
     }
@@ -151,14 +151,15 @@ fn invoked(l: [Invocation; MOST_INVOCATIONS], id: u8, class: u32) -> Slot
     requires { (class ≤ 4) × (idle_slot l ≡ most_invocations → ⊥) }
     ensures { Leaves l result.at result.holds (with_new l id class) }
 {
-    let i = dialogue_invocations::idle_slot(l);
-    let v = Invocation {
-        id,
-        class: class as u8,
-        state: PENDING,
-        shown: 0,
-    };
-    Slot { at: i, holds: v }
+    Slot {
+        at: dialogue_invocations::idle_slot(l).unwrap(),
+        holds: Invocation {
+            id,
+            class: class as u8,
+            state: PENDING,
+            shown: 0,
+        },
+    }
 }
 
 // None is changed: the first holds what it held.
@@ -176,10 +177,14 @@ fn rejected_by(l: [Invocation; MOST_INVOCATIONS], id: u8, problem: u32) -> Slot
     if problem / 256 == 1 {
         return unchanged(l);
     }
-    let i = dialogue_invocations::slot_of(l, id as u32);
-    let mut v = l[i];
-    v.state = REJECTING;
-    Slot { at: i, holds: v }
+    let at = dialogue_invocations::slot_of(l, u32::from(id)).unwrap();
+    Slot {
+        at,
+        holds: Invocation {
+            state: REJECTING,
+            ..l[at]
+        },
+    }
 }
 
 fn acted(l: [Invocation; MOST_INVOCATIONS], what: Passing) -> Slot

@@ -21,15 +21,14 @@ fn idle_from(t: &mut [u8], p: usize, id: u8, state: u8) -> Result<(), Refusal>
     ensures { Idled t.old p id state result t.new }
 {
     let c = table_places::load(t, p);
-    let l = c.invocations;
-    let i = dialogue_invocations::slot_of(l, id as u32);
-    let n = dialogue_invocations::state_at(l, i);
-    if n != state {
-        return Err(Refusal::WrongInvocation);
+    let id = u32::from(id);
+    match dialogue_invocations::slot_of(c.invocations, id) {
+        Some(i) if c.invocations[i].state == state => {
+            table_places::store_control(t, p, dialogue_invocations::to_idle(c, id, i));
+            Ok(())
+        }
+        _ => Err(Refusal::WrongInvocation),
     }
-    let d = dialogue_invocations::to_idle(c, id as u32, i);
-    table_places::store_control(t, p, d);
-    Ok(())
 }
 
 // The class of our invocation of that ID.

@@ -176,12 +176,11 @@ fn write_front(out: &mut [u8], k: Sending, dialogue: u32, c: Control, m: usize) 
     requires { FineControl c × (m ≤ 244) × (least_space ≤ length out.old) }
     ensures { Wrote out.old 0 (front_head (tag_for k) (ids_for k dialogue c) m) result out.new }
 {
-    let peer = c.peer;
-    let n = c.peerlen as usize;
+    let peer = &c.peer[..usize::from(c.peerlen)];
     match k {
         Sending::ABegin => writing_messages::begin_front(out, 0, dialogue, m),
-        Sending::AContinue => writing_messages::continue_front(out, 0, dialogue, peer, n, m),
-        Sending::AnEnd => writing_messages::end_front(out, 0, peer, n, m),
+        Sending::AContinue => writing_messages::continue_front(out, 0, dialogue, peer, m),
+        Sending::AnEnd => writing_messages::end_front(out, 0, peer, m),
         Sending::AUnidirectional => writing_messages::uni_front(out, 0, m),
     }
 }
@@ -271,9 +270,9 @@ fn write_abort(out: &mut [u8], c: Control, portion: &[u8]) -> usize
     match peer_refusal(c.state) {
         Err(_) => 0,
         Ok(()) => {
-            let peer = c.peer;
+            let peer = &c.peer[..usize::from(c.peerlen)];
             let m = call_send_parts::abort_size(portion);
-            let a = writing_messages::abort_front(out, 0, peer, c.peerlen as usize, m);
+            let a = writing_messages::abort_front(out, 0, peer, m);
             call_send_parts::write_aborted(out, a, portion)
         }
     }

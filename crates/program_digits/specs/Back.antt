@@ -1,10 +1,9 @@
 -- WHAT IS PRINTED IS READ BACK, and what is read is printed again as the same text: numbers in decimal, invoke IDs with their sign, octets and
 -- dialogues in hex (read in either case, printed in capitals). Assumes nothing.
-use Rattle.std.specs.Prelude.{ℕ, zero, suc, ◌+◌, ◌*◌, ◌-◌, ◌/◌, ◌%◌, ◌^◌, ◌<◌, ◌≤◌, min, Bool, true, false, ◌≡◌, refl, List, [], ◌∷◌, ◌++◌, map, length, get_or, drop}
-use Rattle.std.proofs.Common.{sym, ap, ◌∙◌, subst, append_assoc, append-nil, pow-suc, add-zero, zero-add, arith, length-append, eqb-true}
+use Rattle.std.specs.Prelude.{Option, Some, None, ℕ, zero, suc, ◌+◌, ◌*◌, ◌-◌, ◌/◌, ◌%◌, ◌^◌, ◌<◌, ◌≤◌, min, true, false, ◌≡◌, refl, List, [], ◌∷◌, ◌++◌, map, length, get_or, drop}
+use Rattle.std.proofs.Common.{sym, ap, ◌∙◌, subst, append_assoc, append-nil, pow-suc, add-zero, zero-add, arith, length-append}
 use Rattle.std.proofs.Math.ListN.{get_or-append}
 use Rattle.laws.specs.If.{if_lt, if_eq, lt, ge, eq, ne, yes, by-lt, by-eq, by-b, true-false}
-use Rattle.program_digits.specs.declared.Number.{Number}
 use Rattle.program_digits.specs.Digits.{sign, digit, digits, decimal, hex, dialogue, invoke_id, below, valued, largest, in_base, read_decimal, read_dialogue, negative, positive, read_id, is_hex, octets}
 
 -- ---- A DIGIT AND ITS OCTET
@@ -101,19 +100,19 @@ digits-read (suc k) n h = by-lt {A = ℕ} {r = if_lt n 10 0 0} n 10 0 0 refl
     (λ l _. subst (Reads n) (sym (last_one (suc k) n l)) (one-read n l))
     (λ l _. subst (Reads n) (sym (one_more (suc k) n l)) (more-read n (digits (suc k) (n / 10)) l (digits-read k (n / 10) (omega (arith, pow-suc 10 (suc k))))))
 
-zero-back : read_decimal (decimal 0) ≡ record { value = 0; ok = true }
+zero-back : read_decimal (decimal 0) ≡ Some 0
 unfolding read_decimal decimal digits sign if_lt if_eq
 zero-back = refl
 
 -- what is printed is read back
-pub decimal-back : (n : ℕ) → n ≤ largest → read_decimal (decimal n) ≡ record { value = n; ok = true }
+pub decimal-back : (n : ℕ) → n ≤ largest → read_decimal (decimal n) ≡ Some n
 unfolding read_decimal decimal in_base
 decimal-back zero h = zero-back
 decimal-back (suc n) h = back (digits 20 (suc n)) (digits-read 19 (suc n) (omega arith))
   where
-    back : (s : List ℕ) → Reads (suc n) s → read_decimal s ≡ record { value = suc n; ok = true }
+    back : (s : List ℕ) → Reads (suc n) s → read_decimal s ≡ Some (suc n)
     back s r = sym (ne (length s) 0 _ _ (λ e. omega (arith, r.some)) (ne (get_or s 0 0) 48 _ _ (λ f. omega (arith, ap digit f, of-48, r.leads (omega arith)))
-        (yes (below 10 s) _ _ r.all (ap (λ (k : ℕ). record { value = k; ok = true }) (omega (arith, r.same))))))
+        (yes (below 10 s) _ _ r.all (ap Some (omega (arith, r.same))))))
 
 -- however many digits there may be, a number has its own
 pub same_digits : (j k n : ℕ) → n < 10 ^ suc j → n < 10 ^ suc k → digits (suc j) n ≡ digits (suc k) n
@@ -171,76 +170,67 @@ leads-not [] b z f = absurd (omega arith)
 leads-not (x ∷ s) b z f = by-eq {A = ℕ} {r = if_eq (digit x) 0 0 0} (digit x) 0 0 0 refl
     (λ e _. absurd (f (sym (decimal-sign x (omega arith)) ∙ ap sign e ∙ sign-0))) (λ e _. omega arith)
 
-abbrev ok_of : Number → Bool
-ok_of m = m.ok
+same_number : {a b : ℕ} → Some a ≡ Some b → a ≡ b
+same_number e = cc
 
-abbrev value_of : Number → ℕ
-value_of m = m.value
-
-pub decimal-again : (s : List ℕ) (n : ℕ) → read_decimal s ≡ record { value = n; ok = true } → valued 10 0 s ≤ largest → decimal n ≡ s
+pub decimal-again : (s : List ℕ) (n : ℕ) → read_decimal s ≡ Some n → valued 10 0 s ≤ largest → decimal n ≡ s
 unfolding read_decimal in_base
 decimal-again s n e q = by-eq (length s) 0 _ _ (sym e)
-    (λ z f. absurd (true-false (ap ok_of f)))
+    (λ z f. (cc))
     (λ z f. by-eq (get_or s 0 0) 48 _ _ f
-    (λ h g. ap decimal (ap value_of g) ∙ zero-again ∙ sym (only_zero s h (eqb-true _ _ (sym (ap ok_of g)))))
+    (λ h g. by-eq (length s) 1 _ _ g (λ l k. ap decimal (same_number k) ∙ zero-again ∙ sym (only_zero s h l)) (λ l k. (cc)))
     (λ h g. by-b (below 10 s) _ _ g
-    (λ b k. ap decimal (ap value_of k ∙ omega arith) ∙ again s (omega arith) (leads-not s b (omega arith) h) b q)
-    (λ b k. absurd (true-false (ap ok_of k)))))
+    (λ b k. ap decimal (same_number k ∙ omega arith) ∙ again s (omega arith) (leads-not s b (omega arith) h) b q)
+    (λ b k. (cc))))
 
 -- a number that is not too large is what its digits say
-small-again : (s : List ℕ) (n : ℕ) → read_decimal s ≡ record { value = n; ok = true } → n < largest → decimal n ≡ s
+small-again : (s : List ℕ) (n : ℕ) → read_decimal s ≡ Some n → n < largest → decimal n ≡ s
 unfolding read_decimal in_base valued
 small-again s n e q = decimal-again s n e (by-eq (length s) 0 _ _ (sym e)
-    (λ z f. absurd (true-false (ap ok_of f)))
+    (λ z f. (cc))
     (λ z f. by-eq (get_or s 0 0) 48 _ _ f
-    (λ h g. omega (arith, of-48, ap (valued 10 0) (only_zero s h (eqb-true _ _ (sym (ap ok_of g))))))
-    (λ h g. by-b (below 10 s) _ _ g (λ b k. omega (arith, ap value_of k)) (λ b k. absurd (true-false (ap ok_of k))))))
-
--- and one that is not 0 is one
-some-ok : (s : List ℕ) (m : Number) → m ≡ read_decimal s → 0 < m.value → m.ok ≡ true
-unfolding read_decimal in_base
-some-ok s m e p = by-eq (length s) 0 _ _ e
-    (λ z f. absurd (omega (arith, ap value_of f)))
-    (λ z f. by-eq (get_or s 0 0) 48 _ _ f
-    (λ h g. absurd (omega (arith, ap value_of g)))
-    (λ h g. by-b (below 10 s) _ _ g (λ b k. ap ok_of k) (λ b k. absurd (omega (arith, ap value_of k)))))
+    (λ h g. by-eq (length s) 1 _ _ g (λ l k. omega (arith, of-48, ap (valued 10 0) (only_zero s h l))) (λ l k. (cc)))
+    (λ h g. by-b (below 10 s) _ _ g (λ b k. omega (arith, same_number k)) (λ b k. (cc)))))
 
 -- ---- INVOKE IDS, with their sign
 decimal-reads : (x : ℕ) → x ≤ largest → Reads x (decimal x)
 unfolding decimal
 decimal-reads x h = digits-read 19 x (omega arith)
 
-pub id-back : (x : ℕ) → x < 256 → read_id (invoke_id x) ≡ record { value = x; ok = true }
+pub id-back : (x : ℕ) → x < 256 → read_id (invoke_id x) ≡ Some x
 unfolding read_id invoke_id negative positive
 id-back x h = by-lt {r = invoke_id x} x 128 _ _ refl
     (λ l e. ap read_id e ∙ let r = decimal-reads x (omega arith) in let b = decimal-back x (omega arith) in
     sym (ne (length (decimal x)) 0 _ _ (λ z. omega (arith, r.some)) (ne (get_or (decimal x) 0 0) 45 _ _ (λ f. omega (arith, ap digit f, of-45, r.first))
-    (ge 127 (read_decimal (decimal x)).value _ _ (omega (arith, ap value_of b)) (sym b)))))
+    (ge 127 x _ _ (omega arith) refl ∙ ap positive (sym b)))))
     (λ l e. ap read_id e ∙ let b = decimal-back (256 - x) (omega arith) in
     sym (ne (length (45 ∷ decimal (256 - x))) 0 _ _ (λ z. omega arith) (eq 45 45 _ _ refl
-    (ne (read_decimal (decimal (256 - x))).value 0 _ _ (λ z. omega (arith, ap value_of b)) (ge 128 (read_decimal (decimal (256 - x))).value _ _ (omega (arith, ap value_of b))
-    (ap (λ (k : ℕ). record { value = k; ok = true }) (omega (arith, ap value_of b))))))))
+    (ne (256 - x) 0 _ _ (λ z. omega arith) (ge 128 (256 - x) _ _ (omega arith) (ap Some (omega arith))) ∙ ap negative (sym b)))))
 
 first-and-rest : (s : List ℕ) (x : ℕ) → (length s ≡ 0 → ⊥) → get_or s 0 0 ≡ x → x ∷ drop 1 s ≡ s
 first-and-rest [] x z e = absurd (z refl)
 first-and-rest (y ∷ s) x z e = ap (λ (k : ℕ). k ∷ s) (sym e)
 
-pub id-again : (s : List ℕ) (n : ℕ) → read_id s ≡ record { value = n; ok = true } → invoke_id n ≡ s
+pub id-again : (s : List ℕ) (n : ℕ) → read_id s ≡ Some n → invoke_id n ≡ s
 unfolding read_id invoke_id negative positive
 id-again s n e = by-eq (length s) 0 _ _ (sym e)
-    (λ z f. absurd (true-false (ap ok_of f)))
-    (λ z f. by-eq (get_or s 0 0) 45 _ _ f
-    (λ h g. let m = read_decimal (drop 1 s) in by-eq m.value 0 _ _ g
-    (λ a k. absurd (true-false (ap ok_of k)))
-    (λ a k. by-lt 128 m.value _ _ k
-    (λ l k. absurd (true-false (ap ok_of k)))
-    (λ l k. let v : 256 - n ≡ m.value = omega (arith, ap value_of k) in
-    sym (ge n 128 _ _ (omega (arith, ap value_of k)) refl) ∙ ap (λ (j : ℕ). 45 ∷ decimal j) v
-    ∙ ap (λ (t : List ℕ). 45 ∷ t) (small-again (drop 1 s) m.value (ap (λ (b : Bool). record { value = m.value; ok = b }) (some-ok (drop 1 s) m refl (omega arith))) (omega arith))
-    ∙ first-and-rest s 45 z h)))
-    (λ h g. by-lt 127 (read_decimal s).value _ _ g
-    (λ l k. absurd (true-false (ap ok_of k)))
-    (λ l k. sym (lt n 128 _ _ (omega (arith, ap value_of k)) refl) ∙ small-again s n (sym k) (omega (arith, ap value_of k)))))
+    (λ z f. (cc))
+    (λ z f. by-eq (get_or s 0 0) 45 _ _ f (λ h g. signed (read_decimal (drop 1 s)) refl g ∙ first-and-rest s 45 z h) (λ h g. plain (read_decimal s) refl g))
+  where
+    signed : (m : Option ℕ) → read_decimal (drop 1 s) ≡ m → Some n ≡ negative m → invoke_id n ≡ 45 ∷ drop 1 s
+    signed None r g = cc
+    signed (Some m) r g = by-eq m 0 _ _ g
+        (λ a k. (cc))
+        (λ a k. by-lt 128 m _ _ k
+        (λ l k. (cc))
+        (λ l k. let v : 256 - n ≡ m = omega (arith, same_number k) in
+        sym (ge n 128 _ _ (omega (arith, same_number k)) refl) ∙ ap (λ (j : ℕ). 45 ∷ decimal j) v ∙ ap (λ (t : List ℕ). 45 ∷ t) (small-again (drop 1 s) m r (omega arith))))
+
+    plain : (m : Option ℕ) → read_decimal s ≡ m → Some n ≡ positive m → invoke_id n ≡ s
+    plain None r g = cc
+    plain (Some m) r g = by-lt 127 m _ _ g
+        (λ l k. (cc))
+        (λ l k. sym (lt n 128 _ _ (omega (arith, same_number k)) refl) ∙ small-again s n (r ∙ sym k) (omega (arith, same_number k)))
 
 -- ---- OCTETS IN HEX
 abbrev pub capital : ℕ → ℕ
@@ -314,14 +304,14 @@ four-valued a b c d p q r s =
     two-valued 0 a (b ∷ (c ∷ (d ∷ []))) p ∙ two-valued (0 * 256 + a) b (c ∷ (d ∷ [])) q
     ∙ two-valued ((0 * 256 + a) * 256 + b) c (d ∷ []) r ∙ two-valued (((0 * 256 + a) * 256 + b) * 256 + c) d [] s
 
-pub dialogue-back : (n : ℕ) → n ≤ largest → read_dialogue (dialogue n) ≡ record { value = n; ok = true }
+pub dialogue-back : (n : ℕ) → n ≤ largest → read_dialogue (dialogue n) ≡ Some n
 unfolding read_dialogue dialogue in_base below hex
 dialogue-back n h =
     let a = n / 16777216 in let b = n / 65536 % 256 in let c = n / 256 % 256 in let d = n % 256 in
     let z = four-valued a b c d (omega arith) (omega arith) (omega arith) (omega arith) ∙ four n in
     sym (eq (length (dialogue n)) 8 _ _ (hex-length (a ∷ (b ∷ (c ∷ (d ∷ [])))))
     (yes (below 16 (dialogue n)) _ _ (hex-below a (b ∷ (c ∷ (d ∷ []))) (omega arith) (hex-below b (c ∷ (d ∷ [])) (omega arith) (hex-below c (d ∷ []) (omega arith) (hex-below d [] (omega arith) refl))))
-    (ap (λ (k : ℕ). record { value = k; ok = true }) (sym (ap (λ (k : ℕ). min k largest) z ∙ low n h)))))
+    (ap Some (sym (ap (λ (k : ℕ). min k largest) z ∙ low n h)))))
   where
     low : (n : ℕ) → n ≤ largest → min n largest ≡ n
     low n h = omega arith
@@ -354,13 +344,13 @@ eight-again (a ∷ (b ∷ (c ∷ (d ∷ (e ∷ (f ∷ [])))))) n l z v = absurd 
 eight-again (a ∷ (b ∷ (c ∷ (d ∷ (e ∷ (f ∷ (g ∷ []))))))) n l z v = absurd (omega arith)
 eight-again (a ∷ (b ∷ (c ∷ (d ∷ (e ∷ (f ∷ (g ∷ (h ∷ (i ∷ s))))))))) n l z v = absurd (omega arith)
 
-pub dialogue-again : (s : List ℕ) (n : ℕ) → read_dialogue s ≡ record { value = n; ok = true } → dialogue n ≡ map capital s
+pub dialogue-again : (s : List ℕ) (n : ℕ) → read_dialogue s ≡ Some n → dialogue n ≡ map capital s
 unfolding read_dialogue in_base
 dialogue-again s n e = by-eq (length s) 8 _ _ (sym e)
     (λ l f. by-b (below 16 s) _ _ f
-    (λ b g. eight-again s n l b (sym (ap value_of g)) ∙ two-again s (omega arith) b)
-    (λ b g. absurd (true-false (ap ok_of g))))
-    (λ l f. absurd (true-false (ap ok_of f)))
+    (λ b g. eight-again s n l b (sym (same_number g)) ∙ two-again s (omega arith) b)
+    (λ b g. (cc)))
+    (λ l f. (cc))
 
 -- a number has at most as many digits as there may be
 pub digits-few : (k n : ℕ) → length (digits k n) ≤ k

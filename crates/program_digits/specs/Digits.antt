@@ -1,8 +1,7 @@
 -- NUMBERS AND OCTETS AS TEXT: the digits that are printed, and what a text is read as. Assumes nothing.
-use Rattle.std.specs.Prelude.{ℕ, zero, suc, ◌+◌, ◌*◌, ◌-◌, ◌/◌, ◌%◌, min, Bool, true, false, List, [], ◌∷◌, ◌++◌, length, get_or, take, drop, eqb}
+use Rattle.std.specs.Prelude.{Option, Some, None, ℕ, zero, suc, ◌+◌, ◌*◌, ◌-◌, ◌/◌, ◌%◌, min, Bool, true, false, List, [], ◌∷◌, ◌++◌, length, get_or, take, drop}
 use Rattle.std.proofs.lemmas.List.Edits.{sets}
 use Rattle.laws.specs.If.{if_lt, if_eq, if_b}
-use Rattle.program_digits.specs.declared.Number.{Number}
 
 -- the octet of a digit below 16: `0` to `9`, then `A` to `F`
 unfoldable pub sign : ℕ → ℕ
@@ -11,6 +10,10 @@ sign d = if_lt d 10 (d + 48) (d + 55)
 -- the digit of an octet, a letter in either case; 16 of any other
 unfoldable pub digit : ℕ → ℕ
 digit x = if_lt x 48 16 (if_lt x 58 (x - 48) (if_lt x 65 16 (if_lt x 71 (x - 55) (if_lt x 97 16 (if_lt x 103 (x - 87) 16)))))
+
+-- the same, none of any other octet
+unfoldable pub hex_digit : ℕ → Option ℕ
+hex_digit x = if_lt (digit x) 16 (Some (digit x)) None
 
 -- ---- PRINTED: a number in decimal, with as few digits as there are; at most k of them
 unfoldable pub digits : ℕ → ℕ → List ℕ
@@ -47,32 +50,31 @@ unfoldable pub valued : ℕ → ℕ → List ℕ → ℕ
 valued b v [] = v
 valued b v (x ∷ s) = valued b (v * b + digit x) s
 
-abbrev pub none : Number
-none = record { value = 0; ok = false }
-
 -- "One too large for 32 bits is the largest of 32 bits"
 abbrev pub largest : ℕ
 largest = 4294967295
 
-unfoldable pub in_base : ℕ → List ℕ → Number
-in_base b s = if_b (below b s) (record { value = min (valued b 0 s) largest; ok = true }) none
+unfoldable pub in_base : ℕ → List ℕ → Option ℕ
+in_base b s = if_b (below b s) (Some (min (valued b 0 s) largest)) None
 
 -- without a sign or leading zeros
-unfoldable pub read_decimal : List ℕ → Number
-read_decimal s = if_eq (length s) 0 none (if_eq (get_or s 0 0) 48 (record { value = 0; ok = eqb (length s) 1 }) (in_base 10 s))
+unfoldable pub read_decimal : List ℕ → Option ℕ
+read_decimal s = if_eq (length s) 0 None (if_eq (get_or s 0 0) 48 (if_eq (length s) 1 (Some 0) None) (in_base 10 s))
 
-unfoldable pub read_dialogue : List ℕ → Number
-read_dialogue s = if_eq (length s) 8 (in_base 16 s) none
+unfoldable pub read_dialogue : List ℕ → Option ℕ
+read_dialogue s = if_eq (length s) 8 (in_base 16 s) None
 
 -- -128 to 127, as its octet
-unfoldable pub negative : Number → Number
-negative n = if_eq n.value 0 none (if_lt 128 n.value none (record { value = 256 - n.value; ok = true }))
+unfoldable pub negative : Option ℕ → Option ℕ
+negative None = None
+negative (Some n) = if_eq n 0 None (if_lt 128 n None (Some (256 - n)))
 
-unfoldable pub positive : Number → Number
-positive n = if_lt 127 n.value none n
+unfoldable pub positive : Option ℕ → Option ℕ
+positive None = None
+positive (Some n) = if_lt 127 n None (Some n)
 
-unfoldable pub read_id : List ℕ → Number
-read_id s = if_eq (length s) 0 none (if_eq (get_or s 0 0) 45 (negative (read_decimal (drop 1 s))) (positive (read_decimal s)))
+unfoldable pub read_id : List ℕ → Option ℕ
+read_id s = if_eq (length s) 0 None (if_eq (get_or s 0 0) 45 (negative (read_decimal (drop 1 s))) (positive (read_decimal s)))
 
 -- hex octets: an even number of digits, and the octet of each two
 unfoldable pub is_hex : List ℕ → Bool

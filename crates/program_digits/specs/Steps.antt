@@ -1,16 +1,19 @@
 -- WHAT THE FUNCTIONS DO, STEP BY STEP, against the definitions. Assumes nothing.
 use Prim.Native.Nat.{ℕ, zero, suc, ◌+◌, ◌*◌, ◌-◌, ◌/◌, ◌%◌, ◌^◌, ◌<◌, ◌≤◌, min}
-use Rattle.std.specs.Prelude.{Bool, cond, ◌≡◌, length, get_or, set, take}
-use Rattle.std.proofs.Math.Bool.{true}
+use Rattle.std.specs.Prelude.{Option, Some, None, is_some, eqb, Bool, cond, ◌≡◌, length, get_or, set, take}
+use Rattle.std.proofs.Math.Bool.{true, false}
+use Rattle.std.proofs.lemmas.Bool.{eqb-false}
 use Rattle.std.proofs.Math.Path.{refl, sym, ap}
-use Rattle.std.proofs.Common.{◌∙◌, subst, pow-suc, le-mul_of_pos_right, add-one, arith, length-drop, drop-cons, take-suc, take_all, length-take-le, get_or-take, get_or-drop, lt-ltb}
+use Rattle.std.proofs.Common.{◌∙◌, subst, pow-suc, le-mul_of_pos_right, add-one, arith, length-drop, drop-cons, take-suc, take_all, length-take-le, get_or-take, get_or-drop, lt-ltb, eqb-true}
 use mathlib.Core.List.{List, [], ◌∷◌, ◌++◌}
 use Rattle.std.proofs.Math.ListN.{drop, drop_of_length-le}
 use Rattle.std.proofs.lemmas.List.Edits.{sets}
 use Rattle.io.specs.Digits.{hex_digit_ascii, IsDigitCount, last_digits as spelled}
-use Rattle.laws.specs.If.{if_lt, lt, ge, yes, no, by-lt, by-b}
-use Rattle.program_digits.specs.Digits.{sign, digit, digits, decimal, hex, or_none, below, valued, none, largest, in_base, is_hex, octets}
-use Rattle.program_digits.specs.declared.Number.{Number}
+use Rattle.laws.specs.If.{if_lt, if_eq, lt, ge, eq, ne, yes, no, by-lt, by-b}
+use Rattle.program_digits.specs.Digits.{sign, digit, hex_digit, digits, decimal, hex, or_none, below, valued, dialogue, largest, in_base, read_decimal, negative, positive, read_id, is_hex, octets}
+use Rattle.std.specs.Bool.{then_some}
+use Rattle.std.specs.Int.{to_be_bytes}
+use mir.Syntax.{w32}
 use Rattle.program_text.specs.Said.{Said, said_more, said-as}
 use Rattle.program_digits.specs.Back.{same_digits, last_one, one_more, below-first, hex-parts}
 use Rattle.laws.specs.Runs.{after, copied_more}
@@ -40,6 +43,56 @@ printed n zero h f = absurd (omega (arith, f.0))
 printed n (suc k) h f =
     let e : suc k - 1 ≡ k = omega arith in
     spelled-digits k n f.1 (λ p. subst (λ (j : ℕ). 10 ^ j ≤ n) e (f.2 p)) ∙ same_digits k 19 n f.1 (omega arith)
+
+-- ---- a digit that there is, and none
+pub digit_some : (x d : ℕ) → d ≡ digit x → d < 16 → Some d ≡ hex_digit x
+unfolding hex_digit
+digit_some x d e h = lt (digit x) 16 _ _ (omega arith) (ap Some e)
+
+pub digit_none : (x : ℕ) → 16 ≡ digit x → None ≡ hex_digit x
+unfolding hex_digit
+digit_none x e = ge (digit x) 16 _ _ (omega arith) refl
+
+pub some_digit : (x d : ℕ) → Some d ≡ hex_digit x → (d ≡ digit x) × (d < 16)
+unfolding hex_digit
+some_digit x d e = by-lt (digit x) 16 _ _ e (λ l f. let g : d ≡ digit x = cc in (g, omega arith)) (λ l f. (cc))
+
+digit_found : (x : ℕ) {r : Option ℕ} → digit x < 16 → r ≡ hex_digit x → is_some r ≡ true
+unfolding hex_digit
+digit_found x h e = by-lt (digit x) 16 _ _ e (λ l f. ap is_some f) (λ l f. absurd (omega arith))
+
+pub no_digit : (x : ℕ) → None ≡ hex_digit x → 16 ≤ digit x
+unfolding hex_digit
+no_digit x e = by-lt (digit x) 16 _ _ e (λ l f. (cc)) (λ l f. l)
+
+-- ---- the octets of a number of 32 bits
+pub of_bytes : (n : ℕ) (r : List ℕ) → n < 4294967296 → r ≡ to_be_bytes w32 n → hex (get_or r 0 0 ∷ (get_or r 1 0 ∷ (get_or r 2 0 ∷ (get_or r 3 0 ∷ [])))) ≡ dialogue n
+unfolding dialogue
+of_bytes n r h e =
+    ap (λ (t : List ℕ). hex (get_or t 0 0 ∷ (get_or t 1 0 ∷ (get_or t 2 0 ∷ (get_or t 3 0 ∷ []))))) e
+    ∙ ap (λ (k : ℕ). hex (k ∷ (n / 65536 % 256 ∷ (n / 256 % 256 ∷ (n % 256 ∷ []))))) (omega arith)
+
+-- ---- a number that begins with `0`
+pub zero_alone : (s : List ℕ) {b : Bool} {r : Option ℕ} → 0 < length s → get_or s 0 0 ≡ 48 → b ≡ eqb (length (take (length s - 1) (drop 1 s))) 0 → r ≡ then_some b 0 → r ≡ read_decimal s
+unfolding read_decimal
+zero_alone s {b} {r} h f e p = ne _ _ _ _ (λ z. omega arith) (eq _ _ _ _ f (go b e p))
+  where
+    rest : length (take (length s - 1) (drop 1 s)) ≡ length s - 1
+    rest = length-take-le (length s - 1) (drop 1 s) (omega (arith, length-drop 1 s))
+
+    go : (b : Bool) → b ≡ eqb (length (take (length s - 1) (drop 1 s))) 0 → r ≡ then_some b 0 → r ≡ if_eq (length s) 1 (Some 0) None
+    go true e p = eq _ _ _ _ (omega (arith, rest, eqb-true _ _ (sym e))) p
+    go false e p = ne _ _ _ _ (λ z. eqb-false _ _ (sym e) (omega (arith, rest))) p
+
+-- ---- an invoke ID with its sign, and without
+pub id_minus : (s : List ℕ) {m r : Option ℕ} → 0 < length s → get_or s 0 0 ≡ 45 → m ≡ read_decimal (take (length s - 1) (drop 1 s)) → r ≡ negative m → r ≡ read_id s
+unfolding read_id
+id_minus s h f e p =
+    ne _ _ _ _ (λ z. omega arith) (eq _ _ _ _ f (p ∙ ap negative (e ∙ ap read_decimal (take_all (length s - 1) (drop 1 s) (omega (arith, length-drop 1 s))))))
+
+pub id_plain : (s : List ℕ) {m r : Option ℕ} → 0 < length s → (get_or s 0 0 ≡ 45 → ⊥) → m ≡ read_decimal s → r ≡ positive m → r ≡ read_id s
+unfolding read_id
+id_plain s h f e p = ne _ _ _ _ (λ z. omega arith) (ne _ _ _ _ f (p ∙ ap positive e))
 
 -- ---- octets in hex, one after another
 hex-append : (s t : List ℕ) → hex (s ++ t) ≡ hex s ++ hex t
@@ -100,20 +153,20 @@ module _ (b : ℕ) (s : List ℕ) where
         ∙ ap (λ (k : ℕ). min (valued b w (drop k s)) largest) (sym (add-one i));
   }
 
-  pub left-none : (v i : ℕ) → i < length s → b ≤ digit (get_or s i 0) → Left b s v i → none ≡ in_base b s
+  pub left-none : (v i : ℕ) → i < length s → b ≤ digit (get_or s i 0) → Left b s v i → None ≡ in_base b s
   unfolding below in_base
   left-none v i h l a = no (below b s) _ _ (a.all ∙ ap (below b) (drop-cons s i 0 h) ∙ sym (ge _ _ _ _ l refl)) refl
 
-  pub left-all : (v i : ℕ) → length s ≤ i → Left b s v i → record { value = v; ok = true } ≡ in_base b s
+  pub left-all : (v i : ℕ) → length s ≤ i → Left b s v i → Some v ≡ in_base b s
   unfolding below valued in_base
   left-all v i h a =
       let e : drop i s ≡ [] = drop_of_length-le s h in
       let f : min (valued b 0 s) largest ≡ min v largest = a.same ∙ ap (λ (t : List ℕ). min (valued b v t) largest) e in
-      yes (below b s) _ _ (a.all ∙ ap (below b) e) (ap (λ (k : ℕ). record { value = k; ok = true }) (omega (arith, a.fits)))
+      yes (below b s) _ _ (a.all ∙ ap (below b) e) (ap Some (omega (arith, a.fits)))
 
-  pub base_ok : (in_base b s).ok ≡ below b s
+  pub base_ok : is_some (in_base b s) ≡ below b s
   unfolding in_base
-  base_ok = by-b {r = in_base b s} (below b s) _ _ refl (λ t e. ap (λ (m : Number). m.ok) e ∙ sym t) (λ t e. ap (λ (m : Number). m.ok) e ∙ sym t)
+  base_ok = by-b {r = in_base b s} (below b s) _ _ refl (λ t e. ap is_some e ∙ sym t) (λ t e. ap is_some e ∙ sym t)
 
 -- ---- octets of which i are read, in the place of their digits
 octet-at : (s : List ℕ) (i : ℕ) → 2 * i + 1 < length s → get_or (octets s) i 0 ≡ digit (get_or s (2 * i) 0) * 16 + digit (get_or s (2 * i + 1) 0)
@@ -150,8 +203,11 @@ module _ (l : List ℕ) (a e : ℕ) (p : a ≤ e) (q : e ≤ length l) (h : is_h
         ∙ after l a (take i (octets (take (e - a) (drop a l)))) (a + k) (omega (arith, length-take-le i (octets (take (e - a) (drop a l))) (omega (arith, octets-length (take (e - a) (drop a l)), part_length))))
         ∙ sym (get_or-drop a l k 0) ∙ sym (get_or-take (e - a) (drop a l) k 0 w)
 
-    pub decode-digit : (k : ℕ) → 2 * i ≤ k → k < e - a → digit (get_or m (a + k) 0) < 16
+    decode-digit : (k : ℕ) → 2 * i ≤ k → k < e - a → digit (get_or m (a + k) 0) < 16
     decode-digit k z w = subst (λ (x : ℕ). digit x < 16) (sym (still k z w)) (below_at 16 (take (e - a) (drop a l)) k (hex-parts _ h).1 (omega (arith, part_length)))
+
+    pub decode-some : (j k : ℕ) {r : Option ℕ} → j ≡ a + k → 2 * i ≤ k → k < e - a → r ≡ hex_digit (get_or m j 0) → is_some r ≡ true
+    decode-some j k n z w g = digit_found (get_or m j 0) (subst (λ (x : ℕ). digit (get_or m x 0) < 16) (sym n) (decode-digit k z w)) g
 
     pub decode-next : (x y v : ℕ) → x ≡ digit (get_or m (a + 2 * i) 0) → y ≡ digit (get_or m (a + 2 * i + 1) 0) → v ≡ x * 16 + y
         → set m (a + i) v ≡ sets l a (take (i + 1) (octets (take (e - a) (drop a l))))

@@ -1,140 +1,87 @@
 // The lines of standard input, one after another, each in a lent space.
 #![tactic(auto)]
 
-ghost use Rattle.std.specs.Prelude.{◌≡◌, ◌≤◌, length};
-ghost use Rattle.program_lines.specs.Within.{Within};
-ghost use Rattle.program_lines.specs.Within.{unread};
+ghost use Rattle.std.specs.Prelude.{◌≡◌, ◌≤◌, length, IfSome};
+ghost use Rattle.program_lines.specs.Within.{Within, Short, unread};
 
 use std::io::Read;
 
-// A line so far: the next octet of the buffer and how many it has; its number; how many of its octets the space has, whether
-// there are more than the space takes; whether it has ended; whether the input ended before it, so that there is none.
+// Stays: an own buffer, since std's reader takes an octet at a time from a pipe and its `BufReader` must have the heap.
+// Where the reading of standard input is: the next octet of the buffer and how many it has; the number of the last line.
 #[derive(Clone, Copy)]
-pub struct Line {
+pub struct Lines {
     pub at: usize,
     pub have: usize,
     pub number: u64,
-    pub count: usize,
-    pub long: bool,
-    pub whole: bool,
-    pub none: bool,
+}
+
+// A line: its number, and how many octets of its space it takes, none where it is longer than that.
+#[derive(Clone, Copy)]
+pub struct Line {
+    pub number: u64,
+    pub count: Option<usize>,
 }
 
 // Before the first line.
-pub fn start() -> Line
-    ensures { Within 0 0 result }
+pub fn start() -> Lines
+    ensures { Within 0 result }
 {
-    Line {
+    Lines {
         at: 0,
         have: 0,
         number: 0,
-        count: 0,
-        long: false,
-        whole: true,
-        none: false,
-    }
-}
-
-// The line after another one, with nothing of it taken yet.
-fn after(l: Line) -> Line
-    ensures { (result.at ≡ l.at) × (result.have ≡ l.have) × (result.count ≡ 0) }
-{
-    Line {
-        at: l.at,
-        have: l.have,
-        number: std::num::wrapping_add_u64(l.number, 1),
-        count: 0,
-        long: false,
-        whole: false,
-        none: false,
     }
 }
 
 // Some octets of standard input, none where it has ended or cannot be read: how many.
-fn read(rt: &impl Input, buf: &mut [u8]) -> usize
+pub fn read(rt: &impl Input, buf: &mut [u8]) -> usize
     ensures { result ≤ length buf.new }
 {
-    let mut input = rt.reader();
-    match input.read(buf) {
-        Ok(n) => n,
-        Err(_) => 0,
-    }
+    rt.reader().read(buf).unwrap_or(0)
 }
 
-// A buffer that is used up is filled again; it stays empty where the input has ended.
-fn filled(rt: &impl Input, buf: &mut [u8], l: Line) -> Line
-    requires { (l.at ≤ l.have) × (l.have ≤ length buf.old) }
-    ensures { (result.at ≤ result.have) × (result.have ≤ length buf.new) × (result.count ≡ l.count) }
+// The next octet of standard input, none where it has ended. A buffer that is used up is filled again.
+fn octet(rt: &impl Input, buf: &mut [u8], lines: &mut Lines) -> Option<u8>
+    requires { Within (length buf.old) lines.old }
+    ensures { Within (length buf.new) lines.new }
 {
-    let mut l = l;
-    if l.at < l.have {
-        return l;
+    if lines.at == lines.have {
+        lines.have = read(rt, buf);
+        lines.at = 0;
     }
-    let n = read(rt, buf);
-    l.at = 0;
-    l.have = n;
-    l
+    let x = *buf[..lines.have].get(lines.at)?;
+    lines.at += 1;
+    Some(x)
 }
 
-// The input has ended: a line that has begun is whole.
-fn ended(l: Line) -> Line
-    ensures { (result.at ≡ l.at) × (result.have ≡ l.have) × (result.count ≡ l.count) }
+// How many octets a line takes with one more, none where that is longer than its space.
+fn with(line: &mut [u8], count: Option<usize>, x: u8) -> Option<usize>
+    ensures { Short (length line.new) result }
 {
-    let mut l = l;
-    l.whole = true;
-    l.none = l.count == 0;
-    l
+    let n = count?;
+    *line.get_mut(n)? = x;
+    Some(n + 1)
 }
 
-// The line with the next octet of the input.
-fn with(line: &mut [u8], l: Line, x: u8) -> Line
-    requires { l.count ≤ length line.old }
-    ensures { (result.at ≡ l.at) × (result.have ≡ l.have) × (result.count ≤ length line.new) }
+// The next line, none where the input has ended. Nothing says that a line ends, so the loop counts its turns, up to a number that no
+// run uses up.
+pub fn next(rt: &impl Input, buf: &mut [u8], line: &mut [u8], lines: &mut Lines) -> Option<Line>
+    requires { Within (length buf.old) lines.old }
+    ensures { Within (length buf.new) lines.new × IfSome result (λ l. Short (length line.new) l.count) }
 {
-    let mut l = l;
-    if x == b'\n' {
-        l.whole = true;
-        return l;
-    }
-    let n = l.count;
-    if n >= line.len() {
-        l.long = true;
-        return l;
-    }
-    line[n] = x;
-    l.count = n + 1;
-    l
-}
-
-// One octet of the input taken.
-fn step(rt: &impl Input, buf: &mut [u8], line: &mut [u8], l: Line) -> Line
-    requires { Within (length buf.old) (length line.old) l }
-    ensures { Within (length buf.new) (length line.new) result }
-{
-    let mut f = filled(rt, buf, l);
-    let at = f.at;
-    if at >= f.have {
-        return ended(f);
-    }
-    f.at = at + 1;
-    with(line, f, buf[at])
-}
-
-// The next line. Nothing says that it ends, so the loop counts its turns down, from a number that no run uses up.
-pub fn next(rt: &impl Input, buf: &mut [u8], line: &mut [u8], l: Line) -> Line
-    requires { Within (length buf.old) (length line.old) l }
-    ensures { Within (length buf.new) (length line.new) result }
-{
-    let mut m = after(l);
-    let mut turns = u64::MAX;
-    while turns > 0 {
-        m = step(rt, buf, line, m);
-        if m.whole {
-            break;
+    lines.number = lines.number.wrapping_add(1);
+    let mut count = Some(0);
+    for _ in 0..u64::MAX {
+        match octet(rt, buf, lines) {
+            None if count == Some(0) => return None,
+            None | Some(b'\n') => break,
+            Some(x) => count = with(line, count, x),
         }
-        turns -= 1;
     }
-    m
+    Some(Line {
+        number: lines.number,
+        count,
+    })
 }
 
 // A line that cannot be read: its number and `bad`. How many octets that is.

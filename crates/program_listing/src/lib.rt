@@ -3,42 +3,34 @@
 
 ghost use Rattle.std.specs.Prelude.{◌<◌, ◌≤◌, ◌≡◌, length, take};
 ghost use Rattle.paper.specs.Readers.{message_items};
-ghost use Rattle.reading_reader.specs.Whole.{PieceFits};
 ghost use Rattle.program_text.specs.Said.{Said};
 ghost use Rattle.program_digits.specs.Digits.{hex, or_none};
 ghost use Rattle.program_listing.specs.Rows.{number_at, numbers};
 ghost use Rattle.program_listing.specs.Listed.{with_piece};
 
-use laws::number;
 use paper::{Component, Row};
-use reading_reader::Piece;
+use reading_reader::{Cursor, Piece, Reader};
 
 // The message of so many octets at the start of a space, `-` for none.
 pub fn message(out: &mut [u8], at: usize, space: &[u8], count: u32) -> usize
     requires { at ≤ length out.old }
     ensures { Said out.old at (or_none (hex (take count space.now))) result out.new }
 {
-    let n = count as usize;
-    if n > space.len() {
-        return program_digits::octets(out, at, space);
-    }
-    program_digits::octets(out, at, &space[0..n])
+    let n = space.len().min(count as usize);
+    program_digits::octets(out, at, &space[..n])
 }
 
 // The number of four octets at a place of the row space, least significant first; 0 past its end.
 pub fn number_at(rows: &[u8], at: usize) -> u32
     ensures { result ≡ number_at rows.now at }
 {
-    if at >= rows.len() {
+    let Some(rest) = rows.get(at..) else {
         return 0;
+    };
+    match rest {
+        [a, b, c, d, ..] => u32::from_le_bytes([*a, *b, *c, *d]),
+        _ => 0,
     }
-    if rows.len() - at < 4 {
-        return 0;
-    }
-    number(rows[at])
-        + 256 * number(rows[at + 1])
-        + 65536 * number(rows[at + 2])
-        + 16777216 * number(rows[at + 3])
 }
 
 // The eight numbers of the row at a place of the row space, each after a blank.
@@ -47,11 +39,9 @@ pub fn row(out: &mut [u8], at: usize, rows: &[u8], place: usize) -> usize
     ensures { Said out.old at (numbers 8 place rows.now) result out.new }
 {
     let mut k = at;
-    let mut i = 0;
-    while i < 8 {
+    for i in 0..8 {
         let n = number_at(rows, place + 4 * i);
-        k = program_digits::spaced(out, k, n as u64);
-        i += 1;
+        k = program_digits::spaced(out, k, u64::from(n));
     }
     k
 }
@@ -60,11 +50,11 @@ pub fn row(out: &mut [u8], at: usize, rows: &[u8], place: usize) -> usize
 fn row_numbers(out: &mut [u8], at: usize, r: Row) -> usize
     ensures { result ≤ length out.new }
 {
-    let a = program_digits::spaced(out, at, r.start as u64);
-    let b = program_digits::spaced(out, a, r.length as u64);
-    let c = program_digits::spaced(out, b, r.invoke as u64);
-    let d = program_digits::spaced(out, c, r.linked as u64);
-    program_digits::spaced(out, d, r.problem as u64)
+    let mut k = at;
+    for n in [r.start, r.length, r.invoke, r.linked, r.problem] {
+        k = program_digits::spaced(out, k, u64::from(n));
+    }
+    k
 }
 
 // The tag, these numbers, and the parameter's start and length.
@@ -82,53 +72,42 @@ fn component_line(out: &mut [u8], at: usize, c: Component) -> usize
     program_text::put(out, f, b'\n')
 }
 
-// How far a message's components are listed: how many, the cursor that the last one gave, whether there may be more.
+// How far a message's components are listed: how many, and the cursor past the last one.
 #[derive(Clone, Copy)]
 pub struct Listed {
     pub count: u64,
-    pub last: usize,
-    pub more: bool,
+    pub last: Option<Cursor>,
 }
 
-// With the piece that the reader gives; a line for a component, where it is to be shown.
+// With the next one; a line for it, where it is to be shown.
 fn taken(rt: &impl Print, l: Listed, p: Piece, shown: bool) -> Listed
-    requires { (l.count ≤ 525312) × PieceFits l.last p }
+    requires { (l.count ≤ 512)
+        × (p.at < 65536)
+        × (p.component.stop < 65536)
+        × (p.component.par ≤ p.component.parstop) }
     ensures { result ≡ with_piece l p }
 {
-    match p {
-        Piece::Part(at, c, next) => {
-            if shown {
-                let mut out = [0u8; 256];
-                let n = component_line(&mut out, at, c);
-                program_text::say(rt, &out, n);
-            }
-            Listed {
-                count: l.count + 1,
-                last: next,
-                more: true,
-            }
-        }
-        Piece::End => Listed {
-            count: l.count,
-            last: l.last,
-            more: false,
-        },
+    if shown {
+        let mut out = [0u8; 256];
+        let n = component_line(&mut out, p.at, p.component);
+        program_text::say(rt, &out, n);
+    }
+    Listed {
+        count: l.count + 1,
+        last: Some(p.next),
     }
 }
 
-// "a reader that stays on one message and gives its components one after another" (01, "Rows"): one, in a local.
+// Those that "a reader that stays on one message" gives (01, "Rows").
 pub fn components(rt: &impl Print, msg: &[u8], shown: bool) -> Listed
     ensures { result.count ≡ length (message_items msg.now) }
 {
-    let mut r = reading_reader::new(msg);
     let mut l = Listed {
         count: 0,
-        last: 0,
-        more: true,
+        last: None,
     };
-    while l.more {
-        l = taken(rt, l, reading_reader::next(r), shown);
-        r = reading_reader::moved(r, l.last);
+    for p in Reader::new(msg) {
+        l = taken(rt, l, p, shown);
     }
     l
 }

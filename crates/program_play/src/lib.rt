@@ -1,69 +1,39 @@
 // The lines of standard input played on one table. One loop, over whose lines they are.
 #![tactic(auto)]
 
-ghost use Rattle.std.specs.Prelude.{◌≤◌, length};
-
-use program_lines::Line;
-
-// Whose lines are played: the vectors' (vectors/README.md), parted by blanks, or those of 01's "Octets to try", parted by tabs.
-#[derive(Clone, Copy)]
-pub enum Player {
-    Replay,
-    Session,
+// What the calls are lent: the table, the space of the rows and that of a message.
+#[derive(Drop)]
+pub struct Lent<'a> {
+    pub table: &'a mut [u8],
+    pub rows: &'a mut [u8],
+    pub space: &'a mut [u8],
 }
 
-fn separator(player: Player) -> u8 {
-    match player {
-        Player::Replay => b' ',
-        Player::Session => b'\t',
-    }
+// Whose lines are played: what parts their words, and what is done with a line.
+pub trait Player {
+    const SEPARATOR: u8;
+
+    fn play(rt: &impl Print, lent: &mut Lent, line: &mut [u8], number: u64);
 }
 
-// A line that is longer than its space cannot be read.
-fn play(
-    rt: &impl Print,
-    player: Player,
-    table: &mut [u8],
-    rows: &mut [u8],
-    space: &mut [u8],
-    line: &mut [u8],
-    l: Line,
-)
-    requires { l.count ≤ length line.old }
-{
-    if l.long {
-        program_lines::bad(rt, l.number, separator(player));
-        return;
-    }
-    let n = l.count;
-    match player {
-        Player::Replay => {
-            program_replay::play(rt, table, rows, space, &mut line[0..n], l.number);
-        }
-        Player::Session => {
-            program_session::play(rt, table, rows, space, &mut line[0..n], l.number);
-        }
-    }
-}
-
-// Nothing says that the input ends, so the loop counts its turns down, from a number that no run uses up.
-pub fn lines(
+// A line that is longer than its space cannot be read. Nothing says that the input ends, so the loop counts its turns, up to a number
+// that no run uses up.
+pub fn lines<P: Player>(
     rt: &(impl Print + Input),
-    player: Player,
+    lent: &mut Lent,
     buf: &mut [u8],
-    table: &mut [u8],
-    rows: &mut [u8],
-    space: &mut [u8],
     line: &mut [u8],
 ) {
-    let mut l = program_lines::start();
-    let mut turns = u64::MAX;
-    while turns > 0 {
-        l = program_lines::next(rt, buf, line, l);
-        if l.none {
+    let mut input = program_lines::start();
+    for _ in 0..u64::MAX {
+        let Some(l) = program_lines::next(rt, buf, line, &mut input) else {
             break;
+        };
+        match l.count {
+            Some(n) => P::play(rt, lent, &mut line[..n], l.number),
+            None => {
+                program_lines::bad(rt, l.number, P::SEPARATOR);
+            }
         }
-        play(rt, player, table, rows, space, line, l);
-        turns -= 1;
     }
 }

@@ -1,98 +1,85 @@
-// What the fields of a line give, parted by one blank.
-ghost use Rattle.std.specs.Prelude.{◌≤◌};
+// What the fields of a line give, parted by one blank: `None` where a field gives something else than is asked for.
+ghost use Rattle.std.specs.Prelude.{◌≤◌, IfSome};
 
 use paper::NO_ID;
-use program_digits::Number;
 use program_words::Field;
 
-// Service, dialogue and invoke ID: the first three fields after the verb.
-#[derive(Clone, Copy)]
-pub struct Named {
-    pub service: u32,
-    pub dialogue: u32,
-    pub id: u8,
-    pub ok: bool,
-}
-
-pub fn field(line: &[u8], k: usize) -> Field {
-    program_words::nth(line, b' ', k)
+// How many blanks a line has.
+pub fn blanks(line: &[u8]) -> usize {
+    program_words::separators(line, b' ')
 }
 
 pub fn part<'a>(line: &'a [u8], k: usize) -> &'a [u8] {
     program_words::part(line, b' ', k)
 }
 
-pub fn verb(line: &[u8], w: &[u8]) -> bool {
-    program_words::is(part(line, 0), w)
+pub fn verb<'a>(line: &'a [u8]) -> &'a [u8] {
+    part(line, 0)
 }
 
-pub fn number(line: &[u8], k: usize) -> Number {
+pub fn number(line: &[u8], k: usize) -> Option<u32> {
     program_digits::read_decimal(part(line, k))
 }
 
-// Service and dialogue.
-pub fn on_dialogue(line: &[u8]) -> Named {
-    let s = number(line, 1);
-    let d = program_digits::read_dialogue(part(line, 2));
-    Named {
-        service: s.value,
-        dialogue: d.value,
-        id: 0,
-        ok: s.ok && d.ok,
-    }
+// Octets in hex, put in their own place; `-` for none.
+pub fn octets(line: &mut [u8], k: usize) -> Option<Field> {
+    let f = program_words::nth(line, b' ', k);
+    program_words::octets_or_none(line, f)
 }
 
-pub fn on_invocation(line: &[u8]) -> Named {
-    let n = on_dialogue(line);
-    let i = program_digits::read_id(part(line, 3));
-    Named {
-        service: n.service,
-        dialogue: n.dialogue,
-        id: i.value as u8,
-        ok: n.ok && i.ok,
+// Service and dialogue: the first two fields after the verb.
+pub fn on_dialogue(line: &[u8]) -> Option<(u32, u32)> {
+    let service = number(line, 1)?;
+    let dialogue = program_digits::read_dialogue(part(line, 2))?;
+    Some((service, dialogue))
+}
+
+// The same, and an invoke ID.
+pub fn on_invocation(line: &[u8]) -> Option<(u32, u32, u8)> {
+    let (service, dialogue) = on_dialogue(line)?;
+    let id = program_digits::read_id(part(line, 3))?;
+    Some((service, dialogue, id))
+}
+
+// Octets, and a start and a length: all that stands after the verb.
+pub fn octets_and_run(line: &mut [u8]) -> Option<(Field, usize, usize)> {
+    if blanks(line) != 3 {
+        return None;
     }
+    let start = number(line, 2)?;
+    let length = number(line, 3)?;
+    let m = octets(line, 1)?;
+    Some((m, start as usize, length as usize))
 }
 
 // A linked ID, `-` for none: 256.
-pub fn linked(s: &[u8]) -> Number
-    ensures { result.value ≤ 256 }
+pub fn linked(s: &[u8]) -> Option<u32>
+    ensures { IfSome result (λ n. n ≤ 256) }
 {
-    if program_words::is(s, b"-") {
-        return Number {
-            value: NO_ID,
-            ok: true,
-        };
+    match s {
+        b"-" => Some(NO_ID),
+        _ => Some(u32::from(program_digits::read_id(s)?)),
     }
-    program_digits::read_id(s)
 }
 
-// The tag of a result: `L` last, `N` not last; 0 for anything else.
-pub fn result_tag(s: &[u8]) -> u8 {
-    if program_words::is(s, b"L") {
-        return 162;
+// The tag of a result: `L` last, `N` not last.
+pub fn result_tag(s: &[u8]) -> Option<u8> {
+    match s {
+        b"L" => Some(162),
+        b"N" => Some(167),
+        _ => None,
     }
-    if program_words::is(s, b"N") {
-        return 167;
-    }
-    0
 }
 
 // Sixteen numbers of an octet each, parted by commas.
-pub fn shares(s: &[u8], out: &mut [u8]) -> bool {
+pub fn shares(s: &[u8]) -> Option<[u8; 16]> {
     if program_words::separators(s, b',') != 15 {
-        return false;
+        return None;
     }
-    let mut i = 0;
-    while i < 16 {
-        let n = program_digits::read_decimal(program_words::part(s, b',', i));
-        if n.ok == false {
-            return false;
-        }
-        if n.value > 255 {
-            return false;
-        }
-        program_text::put(out, i, n.value as u8);
-        i += 1;
+    let mut out = [0; 16];
+    for (i, x) in out.iter_mut().enumerate() {
+        let n = program_digits::read_decimal(program_words::part(s, b',', i))?;
+        *x = u8::try_from(n).ok()?;
     }
-    true
+    Some(out)
 }

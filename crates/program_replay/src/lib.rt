@@ -5,13 +5,17 @@ mod asked;
 mod call;
 mod show;
 
-pub fn play(
-    rt: &impl Print,
-    table: &mut [u8],
-    rows: &mut [u8],
-    space: &mut [u8],
-    line: &mut [u8],
-    number: u64,
-) {
-    call::play(rt, table, rows, space, line, number);
+use program_play::{Lent, Player};
+
+// The vectors' lines, parted by blanks.
+pub struct Replay;
+
+impl Player for Replay {
+    const SEPARATOR: u8 = b' ';
+
+    fn play(rt: &impl Print, lent: &mut Lent, line: &mut [u8], number: u64) {
+        if call::play(rt, lent, line).is_none() {
+            program_lines::bad(rt, number, b' ');
+        }
+    }
 }

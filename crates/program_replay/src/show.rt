@@ -6,12 +6,11 @@ use call_entry::Reply;
 fn opened(out: &mut [u8], at: usize, r: Reply, opens: bool) -> usize
     ensures { result ≤ length out.new }
 {
-    if opens {
-        if r.answer == 0 {
-            return program_digits::dialogue(out, at, r.dialogue);
-        }
+    if opens && r.answer == 0 {
+        program_digits::dialogue(out, at, r.dialogue)
+    } else {
+        program_text::put(out, at, b'-')
     }
-    program_text::put(out, at, b'-')
 }
 
 // `= ANSWER DIALOGUE`, the dialogue of an open that is done
@@ -19,7 +18,7 @@ fn answer_line(out: &mut [u8], r: Reply, opens: bool) -> usize
     ensures { result ≤ length out.new }
 {
     let a = program_text::put(out, 0, b'=');
-    let b = program_digits::spaced(out, a, r.answer as u64);
+    let b = program_digits::spaced(out, a, u64::from(r.answer));
     let c = program_text::put(out, b, b' ');
     opened(out, c, r, opens)
 }
@@ -30,7 +29,7 @@ fn message_line(out: &mut [u8], at: usize, r: Reply, space: &[u8]) -> usize
 {
     let a = program_text::put(out, at, b' ');
     let b = program_listing::message(out, a, space, r.length);
-    let c = program_digits::spaced(out, b, r.rows as u64);
+    let c = program_digits::spaced(out, b, u64::from(r.rows));
     program_text::put(out, c, b'\n')
 }
 
@@ -51,12 +50,9 @@ fn row(rt: &impl Print, sign: u8, rows: &[u8], k: u32) {
 }
 
 // `r n n n n n n n n`
-
 pub fn row_lines(rt: &impl Print, rows: &[u8], count: u32) {
-    let mut k = 0;
-    while k < count {
+    for k in 0..count {
         row(rt, b'r', rows, k);
-        k += 1;
     }
 }
 

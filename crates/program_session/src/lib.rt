@@ -4,14 +4,20 @@
 mod call;
 mod show;
 
-pub fn play(
-    rt: &impl Print,
-    table: &mut [u8],
-    rows: &mut [u8],
-    space: &mut [u8],
-    line: &mut [u8],
-    number: u64,
-) {
-    let p = call::play(table, rows, space, line);
-    show::line(rt, number, p, table, space);
+use program_play::{Lent, Player};
+
+// The lines of 01's "Octets to try", parted by tabs.
+pub struct Session;
+
+impl Player for Session {
+    const SEPARATOR: u8 = b'\t';
+
+    fn play(rt: &impl Print, lent: &mut Lent, line: &mut [u8], number: u64) {
+        match call::play(lent, line) {
+            Some(p) => show::line(rt, number, p, lent),
+            None => {
+                program_lines::bad(rt, number, b'\t');
+            }
+        }
+    }
 }

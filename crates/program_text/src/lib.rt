@@ -21,30 +21,22 @@ pub fn word(out: &mut [u8], at: usize, s: &[u8]) -> usize
     ensures { Said out.old at s.now result out.new }
 {
     let mut k = at;
-    let mut i = 0;
-    while i < s.len() {
-        k = put(out, k, s[i]);
-        i += 1;
+    for &x in s {
+        k = put(out, k, x);
     }
     k
 }
 
 // Hands a text to standard output. What becomes of it no contract can say, and a write that fails is passed over.
 fn hand(rt: &impl Print, out: &[u8]) {
-    match rt.write_all(out) {
-        Ok(()) => {}
-        Err(_) => {}
-    }
+    let _ = rt.write_all(out);
 }
 
 // Hands the first n octets of a text to standard output, all where it has fewer: how many those are.
 pub fn say(rt: &impl Print, out: &[u8], n: usize) -> usize
     ensures { result ≡ min n (length out.now) }
 {
-    if n > out.len() {
-        hand(rt, out);
-        return out.len();
-    }
+    let n = n.min(out.len());
     hand(rt, &out[..n]);
     n
 }

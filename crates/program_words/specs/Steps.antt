@@ -1,64 +1,50 @@
 -- WHAT THE FUNCTIONS DO, STEP BY STEP, against the definitions. Assumes nothing.
-use Rattle.std.specs.Prelude.{ℕ, zero, suc, ◌+◌, ◌-◌, ◌<◌, ◌≤◌, Bool, true, false, ◌≡◌, refl, take, eqb}
+use Rattle.std.specs.Prelude.{Option, Some, None, unwrap_or, filter, cond, ◌&&◌, ℕ, zero, suc, ◌+◌, ◌-◌, ◌≤◌, min, Bool, true, false, ◌≡◌, refl, take, eqb}
 use Rattle.std.proofs.Math.Path.{sym, ap}
-use Rattle.std.proofs.Common.{◌∙◌, add-one, arith, length-drop, drop_of_length-le, drop-cons, drop-drop}
+use Rattle.std.proofs.Common.{◌∙◌, add-one, arith, length-drop, drop_of_length-le, drop-drop}
 use mathlib.Core.List.{List, [], ◌∷◌}
-use Rattle.std.proofs.Math.ListN.{length, get_or, drop}
-use Rattle.laws.specs.If.{if_lt, if_b, ge, eq, ne, by-lt, by-eq}
+use Rattle.std.proofs.Math.ListN.{length, drop}
+use Rattle.std.proofs.Math.Dec.{ltb}
+use Rattle.std.proofs.Common.{ltb-false}
+use Rattle.std.proofs.lemmas.List.Recursion.{is_position_or_len}
+use Rattle.std.specs.List.{position_or_len}
+use Rattle.std.specs.Slice.{IsGetRangeResult}
+use Rattle.std.specs.Cmp.Lexicographic.{pointwise}
+use denote.Ref.{Bor}
+use Rattle.laws.specs.If.{if_lt, if_eq, if_b, lt, ge, by-lt, by-eq, true-false}
 use Rattle.program_words.specs.declared.Field.{Field}
-use Rattle.program_words.specs.Words.{up_to, past, after, word_of, field_of, count, same, cut_of, or_none, with_or_none, Two}
+use Rattle.program_words.specs.declared.Pair.{Pair}
+use Rattle.program_words.specs.Words.{up_to, past, after, word_of, field_of, count, same, cut_of, or_none, with_or_none, pair_of, Two}
 
 module _ (x : ℕ) (s : List ℕ) where
-  -- the first separator at or after a place, sought at i
-  pub sought-next : (i : ℕ) → i < length s → (get_or s i 0 ≡ x → ⊥) → i + length (up_to x (drop i s)) ≡ i + 1 + length (up_to x (drop (i + 1) s))
-  unfolding up_to
-  sought-next i h n =
-      let e : up_to x (drop i s) ≡ get_or s i 0 ∷ up_to x (drop (suc i) s) = ap (up_to x) (drop-cons s i 0 h) ∙ sym (ne _ _ _ _ n refl) in
-      omega (arith, ap length e, ap (λ (k : ℕ). length (up_to x (drop k s))) (add-one i))
-
-  pub sought-here : (i : ℕ) → i < length s → get_or s i 0 ≡ x → i ≡ i + length (up_to x (drop i s))
-  unfolding up_to
-  sought-here i h q =
-      let e : up_to x (drop i s) ≡ [] = ap (up_to x) (drop-cons s i 0 h) ∙ sym (eq _ _ _ _ q refl) in
-      omega (arith, ap length e)
-
-  pub sought-none : (i : ℕ) → length s ≤ i → i ≡ i + length (up_to x (drop i s))
-  unfolding up_to
-  sought-none i h = omega (arith, ap (λ (t : List ℕ). length (up_to x t)) (drop_of_length-le s h))
-
   -- past it
-  pub past-at : (from e r : ℕ) → e ≡ from + length (up_to x (drop from s)) → r ≡ e + 1 → drop r s ≡ past x (drop from s)
+  past-at : (from e r : ℕ) → e ≡ from + length (up_to x (drop from s)) → r ≡ e + 1 → drop r s ≡ past x (drop from s)
   past-at from e r p q =
       let f : r ≡ from + suc (length (up_to x (drop from s))) = omega arith in
       ap (λ (k : ℕ). drop k s) f ∙ sym (drop-drop (suc (length (up_to x (drop from s)))) from s)
 
-  pub past-none : (from e : ℕ) → e ≡ from + length (up_to x (drop from s)) → length s ≤ e → drop e s ≡ past x (drop from s)
-  past-none from e p h =
+  past-none : (from r : ℕ) → length s ≤ from + length (up_to x (drop from s)) → length s ≤ r → drop r s ≡ past x (drop from s)
+  past-none from r p h =
       drop_of_length-le s h ∙ sym (drop_of_length-le (drop from s) {i = suc (length (up_to x (drop from s)))} (omega (arith, length-drop from s)))
+
+  pub past_is : (from e r : ℕ) → e ≡ from + length (up_to x (drop from s)) → r ≡ min (e + 1) (length s) → drop r s ≡ past x (drop from s)
+  past_is from e r p q = by-lt {A = ℕ} {r = if_lt e (length s) 0 0} e (length s) 0 0 refl
+      (λ l _. past-at from e r p (omega arith)) (λ l _. past-none from r (omega arith) (omega arith))
 
   pub after_next : (i a b : ℕ) → drop a s ≡ after x i s → drop b s ≡ past x (drop a s) → drop b s ≡ after x (i + 1) s
   unfolding after
   after_next i a b e f = f ∙ ap (past x) e ∙ ap (λ (k : ℕ). after x k s) (sym (add-one i))
 
-  pub field_is : (k a b : ℕ) → a ≤ length s → drop a s ≡ after x k s → b ≡ a + length (up_to x (drop a s)) → record { start = a; stop = b; ok = true } ≡ field_of x k s
-  field_is k a b h e f =
+  pub field_is : (i k a b : ℕ) → i ≡ k → a ≤ length s → drop a s ≡ after x i s → b ≡ a + length (up_to x (drop a s)) → record { start = a; stop = b } ≡ field_of x k s
+  field_is i k a b j h g f =
+      let e : drop a s ≡ after x k s = g ∙ ap (λ (n : ℕ). after x n s) j in
       let p : a ≡ length s - length (after x k s) = omega (arith, ap length e, length-drop a s) in
       let q : b ≡ length s - length (after x k s) + length (word_of x k s) = omega (arith, ap (λ (t : List ℕ). length (up_to x t)) e) in
-      ap (λ (n : ℕ). record { start = n; stop = b; ok = true }) p ∙ ap (λ (n : ℕ). record { start = length s - length (after x k s); stop = n; ok = true }) q
-
-  -- how many
-  pub count_next : (i n : ℕ) → i < length s → count x s ≡ n + count x (drop i s) → (m : ℕ) → m ≡ if_b (eqb (get_or s i 0) x) 1 0 → count x s ≡ n + m + count x (drop (i + 1) s)
-  unfolding count
-  count_next i n h e m f =
-      let g : count x (drop i s) ≡ if_b (eqb (get_or s i 0) x) 1 0 + count x (drop (suc i) s) = ap (count x) (drop-cons s i 0 h) in
-      omega (arith, ap (λ (k : ℕ). count x (drop k s)) (add-one i))
-
-  pub count-all : (i n : ℕ) → length s ≤ i → count x s ≡ n + count x (drop i s) → n ≡ count x s
-  unfolding count
-  count-all i n h e = omega (arith, ap (count x) (drop_of_length-le s h))
+      let r : ◌≡◌ {A = Field} (record { start = a; stop = b }) (record { start = length s - length (after x k s); stop = b }) = ap (λ (n : ℕ). record { start = n; stop = b }) p in
+      r ∙ ap (λ (n : ℕ). record { start = length s - length (after x k s); stop = n }) q
 
 -- a word is what lies in its field
-up-to-short : (x : ℕ) (s : List ℕ) → (length (up_to x s) ≤ length s) × (take (length (up_to x s)) s ≡ up_to x s)
+pub up-to-short : (x : ℕ) (s : List ℕ) → (length (up_to x s) ≤ length s) × (take (length (up_to x s)) s ≡ up_to x s)
 unfolding up_to
 up-to-short x [] = (omega arith, refl)
 up-to-short x (y ∷ s) = by-eq {r = up_to x (y ∷ s)} y x _ _ refl
@@ -91,38 +77,78 @@ word_cut x k s =
     let m : d + w - d ≡ w = omega arith in
     sym (ge (length s) (d + w) _ _ (omega (arith, a.0, u.0)) (ge (d + w) d _ _ (omega arith) (sym (ap (λ (n : ℕ). take n (drop d s)) m ∙ ap (take w) a.1 ∙ u.1))))
 
+-- the first separator of a part
+to_first : (x : ℕ) (s : List ℕ) → length (up_to x s) ≡ position_or_len (λ y. eqb y x) s
+unfolding up_to if_eq
+to_first x s = is_position_or_len (λ t. length (up_to x t)) (λ y. eqb y x) refl step s
+  where
+    step : (y : ℕ) (t : List ℕ) → length (up_to x (y ∷ t)) ≡ cond (eqb y x) 0 (1 + length (up_to x t))
+    step y t = go (eqb y x)
+      where
+        go : (b : Bool) → length (cond b [] (y ∷ up_to x t)) ≡ cond b 0 (1 + length (up_to x t))
+        go true = refl
+        go false = omega arith
+
+pub sought : (x : ℕ) (s : List ℕ) {o : Option ℕ} {r : ℕ} → o ≡ cond (ltb (position_or_len (λ y. eqb y x) s) (length s)) (Some (position_or_len (λ y. eqb y x) s)) None
+    → r ≡ unwrap_or o (length s) → r ≡ length (up_to x s)
+sought x s {o} {r} e f = go (ltb (position_or_len (λ y. eqb y x) s) (length s)) refl e
+  where
+    go : (b : Bool) → ltb (position_or_len (λ y. eqb y x) s) (length s) ≡ b → o ≡ cond b (Some (position_or_len (λ y. eqb y x) s)) None → r ≡ length (up_to x s)
+    go true t e = f ∙ ap (λ (o : Option ℕ). unwrap_or o (length s)) e ∙ sym (to_first x s)
+    go false t e = f ∙ ap (λ (o : Option ℕ). unwrap_or o (length s)) e ∙ omega (arith, ltb-false _ _ t, to_first x s, (up-to-short x s).0)
+
+-- how many separators
+pub counted : (x : ℕ) (s : List ℕ) → length (filter (λ y. eqb y x) s) ≡ count x s
+unfolding count if_b
+counted x [] = refl
+counted x (y ∷ s) = go (eqb y x) (counted x s)
+  where
+    go : (b : Bool) → length (filter (λ y. eqb y x) s) ≡ count x s → length (cond b (y ∷ filter (λ y. eqb y x) s) (filter (λ y. eqb y x) s)) ≡ cond b 1 0 + count x s
+    go true e = omega arith
+    go false e = omega arith
+
+-- what lies in a field
+pub cut_is : (f : Field) (s : List ℕ) (o : Option (Bor (List ℕ))) (d : Bor (List ℕ)) → IsGetRangeResult s f.start f.stop o → d.now ≡ [] → (unwrap_or o d).now ≡ cut_of f s
+unfolding cut_of
+cut_is f s None d p e = by-lt {A = ℕ} {r = if_lt (length s) f.stop 0 0} (length s) f.stop 0 0 refl
+    (λ l _. lt _ _ _ _ l e)
+    (λ l _. by-lt {A = ℕ} {r = if_lt f.stop f.start 0 0} f.stop f.start 0 0 refl
+    (λ m _. ge _ _ _ _ l (lt _ _ _ _ m e))
+    (λ m _. let h : ◌≡◌ {A = Bool} false true = p.1 (m, l) in absurd (true-false (sym h))))
+cut_is f s (Some x) d p e = ge _ _ _ _ p.0.1 (ge _ _ _ _ p.0.0 p.0.2)
+
 -- ---- the same octets?
-pub same-long : (s t : List ℕ) → (length s ≡ length t → ⊥) → false ≡ same s t
-unfolding same
-same-long [] [] h = absurd (h refl)
-same-long [] (y ∷ t) h = refl
-same-long (x ∷ s) [] h = refl
-same-long (x ∷ s) (y ∷ t) h = by-eq {r = same (x ∷ s) (y ∷ t)} x y _ _ refl (λ q e. same-long s t (λ z. h (ap suc z)) ∙ sym e) (λ q e. sym e)
-
-module _ (s t : List ℕ) (i : ℕ) where
-  pub same_next : i < length s → i < length t → get_or s i 0 ≡ get_or t i 0 → same s t ≡ same (drop i s) (drop i t) → same s t ≡ same (drop (i + 1) s) (drop (i + 1) t)
-  unfolding same
-  same_next h k q e =
-      e ∙ ap (λ (u : List ℕ). same u (drop i t)) (drop-cons s i 0 h) ∙ ap (same (get_or s i 0 ∷ drop (suc i) s)) (drop-cons t i 0 k) ∙ sym (eq _ _ _ _ q refl)
-      ∙ ap (λ (n : ℕ). same (drop n s) (drop n t)) (sym (add-one i))
-
-  pub same_none : i < length s → i < length t → (get_or s i 0 ≡ get_or t i 0 → ⊥) → same s t ≡ same (drop i s) (drop i t) → false ≡ same s t
-  unfolding same
-  same_none h k q e =
-      sym (e ∙ ap (λ (u : List ℕ). same u (drop i t)) (drop-cons s i 0 h) ∙ ap (same (get_or s i 0 ∷ drop (suc i) s)) (drop-cons t i 0 k) ∙ sym (ne _ _ _ _ q refl))
-
-  pub same-all : length s ≤ i → length t ≤ i → same s t ≡ same (drop i s) (drop i t) → true ≡ same s t
-  unfolding same
-  same-all h k e = sym (e ∙ ap (λ (u : List ℕ). same u (drop i t)) (drop_of_length-le s h) ∙ ap (same []) (drop_of_length-le t k))
+pub same_is : (s t : List ℕ) → pointwise eqb s t ≡ same s t
+unfolding same if_eq
+same_is [] [] = refl
+same_is [] (y ∷ t) = refl
+same_is (x ∷ s) [] = refl
+same_is (x ∷ s) (y ∷ t) = go (eqb x y) (same_is s t)
+  where
+    go : (b : Bool) → pointwise eqb s t ≡ same s t → (b && pointwise eqb s t) ≡ cond b (same s t) false
+    go true e = e
+    go false e = refl
 
 -- ---- two words, one after the other
-pub two : (x k : ℕ) (s : List ℕ) {f g a b : Field} {m n : List ℕ} {o : Bool} → f ≡ field_of x k s → g ≡ field_of x (k + 1) s → a ≡ or_none f s → m ≡ with_or_none f s
-    → b ≡ or_none g m → n ≡ with_or_none g m → o ≡ if_b a.ok b.ok false → Two x k s (record { first = a; second = b; ok = o }) n
-two x k s {f} {g} {a} {b} {m} {n} p q c d e h t =
+pub no_first : (b : Option Field) {a : Option Field} {r : Option Pair} → a ≡ None → r ≡ None → r ≡ pair_of a b
+unfolding pair_of
+no_first b e p = p ∙ ap (λ (a : Option Field). pair_of a b) (sym e)
+
+pub no_second : {a b : Option Field} {r : Option Pair} {f : Field} → a ≡ Some f → b ≡ None → r ≡ None → r ≡ pair_of a b
+unfolding pair_of
+no_second {a} {b} {r} {f} e d p = p ∙ ap (pair_of (Some f)) (sym d) ∙ ap (λ (a : Option Field). pair_of a b) (sym e)
+
+pub has_both : {a b : Option Field} {r : Option Pair} {f g : Field} → a ≡ Some f → b ≡ Some g → r ≡ Some (record { first = f; second = g }) → r ≡ pair_of a b
+unfolding pair_of
+has_both {a} {b} {r} {f} e d p = p ∙ ap (pair_of (Some f)) (sym d) ∙ ap (λ (a : Option Field). pair_of a b) (sym e)
+
+pub two : (x k : ℕ) (s : List ℕ) {f g : Field} {a b : Option Field} {r : Option Pair} {m n : List ℕ} → f ≡ field_of x k s → g ≡ field_of x (k + 1) s → a ≡ or_none f s → m ≡ with_or_none f s
+    → b ≡ or_none g m → n ≡ with_or_none g m → r ≡ pair_of a b → Two x k s r n
+two x k s {f} {g} {a} {b} {r} {m} {n} p q c d e h t =
     let l : m ≡ with_or_none (field_of x k s) s = d ∙ ap (λ (f : Field). with_or_none f s) p in
+    let first : a ≡ or_none (field_of x k s) s = c ∙ ap (λ (f : Field). or_none f s) p in
+    let second : b ≡ or_none (field_of x (k + 1) s) (with_or_none (field_of x k s) s) = e ∙ ap (λ (g : Field). or_none g m) q ∙ ap (or_none (field_of x (k + 1) s)) l in
     record {
-      first = c ∙ ap (λ (f : Field). or_none f s) p;
-      second = e ∙ ap (λ (g : Field). or_none g m) q ∙ ap (or_none (field_of x (k + 1) s)) l;
-      both = t;
+      both = t ∙ ap (λ (a : Option Field). pair_of a b) first ∙ ap (pair_of (or_none (field_of x k s) s)) second;
       line = h ∙ ap (λ (g : Field). with_or_none g m) q ∙ ap (with_or_none (field_of x (k + 1) s)) l;
     }

@@ -1,104 +1,91 @@
 // A line of hex octets, taken in an octet of text at a time.
-ghost use Rattle.std.specs.Prelude.{◌<◌, length};
-ghost use Rattle.read.specs.Line.{LineIn};
+ghost use Rattle.std.specs.Prelude.{◌≤◌};
 
 use crate::show;
+use paper::LONGEST_MESSAGE;
 
-// A line so far: its number; how many octets it has, as many as the space for any more; a digit that waits for its second, 16 none.
+// A message's octets, and one that makes it too long.
+const ROOM: usize = LONGEST_MESSAGE + 1;
+
+// What the rest of a line is: more of its octets, a comment, or passed over, as it cannot be read.
+#[derive(Clone, Copy, PartialEq, Eq)]
+enum Rest {
+    Octets,
+    Comment,
+    Bad,
+}
+
+// A line so far: its number; how many octets it has, as many as their space for any more; a digit that waits for its second.
 #[derive(Clone, Copy)]
 pub struct Line {
-    pub number: u64,
-    pub count: usize,
-    pub digit: u8,
-    pub comment: bool,
-    pub bad: bool,
+    number: u64,
+    octets: [u8; ROOM],
+    count: usize,
+    digit: Option<u8>,
+    rest: Rest,
+    ghost short: { count ≤ 513 },
 }
 
-pub fn fresh(number: u64) -> Line
-    ensures { LineIn 0 result }
-{
-    Line {
-        number,
-        count: 0,
-        digit: 16,
-        comment: false,
-        bad: false,
+impl Line {
+    // The first line, before its first octet.
+    pub fn first() -> Line {
+        Line {
+            number: 1,
+            octets: [0; ROOM],
+            count: 0,
+            digit: None,
+            rest: Rest::Octets,
+        }
     }
-}
 
-// A hex digit: the second makes an octet of the two.
-fn with_digit(octets: &mut [u8], l: Line, d: u8) -> Line
-    requires { LineIn (length octets.old) l × (d < 16) }
-    ensures { LineIn (length octets.new) result }
-{
-    let mut l = l;
-    if l.digit == 16 {
-        l.digit = d;
-        return l;
+    // The line after it, before its first octet.
+    fn next(&mut self) {
+        self.number = self.number.wrapping_add(1);
+        self.count = 0;
+        self.digit = None;
+        self.rest = Rest::Octets;
     }
-    let n = l.count;
-    let x = l.digit * 16 + d;
-    l.digit = 16;
-    if n >= octets.len() {
-        return l;
-    }
-    octets[n] = x;
-    l.count = n + 1;
-    l
-}
 
-// At its end: what cannot be read as octets is `bad`, and a line without any is passed over.
-pub fn finish(rt: &impl Print, octets: &[u8], l: Line)
-    requires { LineIn (length octets.now) l }
-{
-    if l.bad {
-        program_lines::bad(rt, l.number, b' ');
-        return;
+    // A hex digit: the second makes an octet of the two.
+    fn with_digit(&mut self, d: u8) {
+        match self.digit {
+            None => self.digit = Some(d),
+            Some(high) => {
+                self.digit = None;
+                if self.count < ROOM {
+                    self.octets[self.count] = high << 4 | d;
+                    self.count += 1;
+                }
+            }
+        }
     }
-    if l.digit < 16 {
-        program_lines::bad(rt, l.number, b' ');
-        return;
-    }
-    let n = l.count;
-    if n > 0 {
-        show::message(rt, l.number, &octets[..n]);
-    }
-}
 
-// The next octet of the text. A line feed ends the line; blanks, tabs and carriage returns are passed over.
-fn taken(rt: &impl Print, octets: &mut [u8], l: Line, x: u8) -> Line
-    requires { LineIn (length octets.old) l }
-    ensures { LineIn (length octets.new) result }
-{
-    let mut l = l;
-    if x == b'\n' {
-        finish(rt, octets, l);
-        return fresh(std::num::wrapping_add_u64(l.number, 1));
+    // At its end: what cannot be read as octets is `bad`, and a line without any is passed over.
+    pub fn finish(&self, rt: &impl Print) {
+        if self.rest == Rest::Bad || self.digit.is_some() {
+            program_lines::bad(rt, self.number, b' ');
+        } else if self.count > 0 {
+            show::message(rt, self.number, &self.octets[..self.count]);
+        }
     }
-    if l.comment || x == b' ' || x == b'\t' || x == b'\r' {
-        return l;
-    }
-    if x == b'#' {
-        l.comment = true;
-        return l;
-    }
-    let d = program_digits::digit_of(x);
-    if d < 16 {
-        return with_digit(octets, l, d);
-    }
-    l.bad = true;
-    l
-}
 
-pub fn feed(rt: &impl Print, s: &[u8], octets: &mut [u8], l: Line) -> Line
-    requires { LineIn (length octets.old) l }
-    ensures { LineIn (length octets.new) result }
-{
-    let mut l = l;
-    let mut i = 0;
-    while i < s.len() {
-        l = taken(rt, octets, l, s[i]);
-        i += 1;
+    // The next octet of the text. A line feed ends the line; blanks, tabs and carriage returns are passed over.
+    pub fn take(&mut self, rt: &impl Print, x: u8) {
+        if x == b'\n' {
+            self.finish(rt);
+            self.next();
+            return;
+        }
+        if self.rest != Rest::Octets || matches!(x, b' ' | b'\t' | b'\r') {
+            return;
+        }
+        if x == b'#' {
+            self.rest = Rest::Comment;
+            return;
+        }
+        match program_digits::digit_of(x) {
+            Some(d) => self.with_digit(d),
+            None => self.rest = Rest::Bad,
+        }
     }
-    l
 }

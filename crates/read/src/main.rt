@@ -5,41 +5,27 @@
 // `fault CODE START LENGTH`, the code that of the general problem.
 #![tactic(auto)]
 
-ghost use Rattle.std.specs.Prelude.{◌≤◌, length};
-
 mod line;
 mod show;
 
-use std::io::Read;
+use line::Line;
 
-// Some octets of standard input, none where it has ended or cannot be read: how many.
-fn read(rt: &impl Input, buf: &mut [u8]) -> usize
-    ensures { result ≤ length buf.new }
-{
-    let mut input = rt.reader();
-    match input.read(buf) {
-        Ok(n) => n,
-        Err(_) => 0,
-    }
-}
-
-// Nothing says that the input ends, so the loop counts its turns down, from a number that no run uses up.
-fn read_lines(rt: &(impl Print + Input), octets: &mut [u8]) {
-    let mut l = line::fresh(1);
-    let mut turns = u64::MAX;
-    while turns > 0 {
-        let mut buf = [0u8; 4096];
-        let n = read(rt, &mut buf);
+// Nothing says that the input ends, so the loop counts its turns, up to a number that no run uses up.
+fn read_lines(rt: &(impl Print + Input)) {
+    let mut buf = [0u8; 4096];
+    let mut line = Line::first();
+    for _ in 0..u64::MAX {
+        let n = program_lines::read(rt, &mut buf);
         if n == 0 {
             break;
         }
-        l = line::feed(rt, &buf[..n], octets, l);
-        turns -= 1;
+        for &x in &buf[..n] {
+            line.take(rt, x);
+        }
     }
-    line::finish(rt, octets, l);
+    line.finish(rt);
 }
 
 fn main(rt: HostRuntime) {
-    let mut octets = [0u8; 513];
-    read_lines(&rt, &mut octets);
+    read_lines(&rt);
 }

@@ -2,16 +2,14 @@
 ghost use Rattle.std.specs.Prelude.{◌+◌, ◌<◌, ◌≤◌, length};
 ghost use Rattle.reading_messages.specs.Bounds.{MessageIn};
 
-use paper::{Component, IS_DROPPED, IS_SOUND, Message, NO_PROBLEM, Run};
+use paper::{Component, IS_DROPPED, IS_SOUND, LONGEST_MESSAGE, Message, NO_PROBLEM, Run};
 
 fn run(out: &mut [u8], at: usize, s: &[u8], r: Run) -> usize
     requires { r.start + r.length ≤ length s.now }
     ensures { result ≤ length out.new }
 {
     let a = program_text::put(out, at, b' ');
-    let from = r.start;
-    let to = from + r.length;
-    program_digits::octets(out, a, &s[from..to])
+    program_digits::octets(out, a, &s[r.start..r.start + r.length])
 }
 
 // How it is read: sound, dropped for its form, or at fault with a P-Abort cause.
@@ -19,24 +17,24 @@ fn form(out: &mut [u8], at: usize, fault: u8) -> usize
     requires { at ≤ length out.old }
     ensures { result ≤ length out.new }
 {
-    if fault == IS_SOUND {
-        return program_text::word(out, at, b" sound");
+    match fault {
+        IS_SOUND => program_text::word(out, at, b" sound"),
+        IS_DROPPED => program_text::word(out, at, b" dropped"),
+        cause => {
+            let a = program_text::word(out, at, b" fault-");
+            program_digits::decimal(out, a, u64::from(cause))
+        }
     }
-    if fault == IS_DROPPED {
-        return program_text::word(out, at, b" dropped");
-    }
-    let a = program_text::word(out, at, b" fault-");
-    program_digits::decimal(out, a, fault as u64)
 }
 
 fn cause(out: &mut [u8], at: usize, code: u32) -> usize
     requires { at ≤ length out.old }
     ensures { result ≤ length out.new }
 {
-    if code == NO_PROBLEM {
-        return program_text::word(out, at, b" -");
+    match code {
+        NO_PROBLEM => program_text::word(out, at, b" -"),
+        _ => program_digits::spaced(out, at, u64::from(code)),
     }
-    program_digits::spaced(out, at, code as u64)
 }
 
 // Line number, type and form.
@@ -54,14 +52,11 @@ fn message_line(out: &mut [u8], line: u64, s: &[u8], m: Message) -> usize
     requires { MessageIn (length s.now) m }
     ensures { result ≤ length out.new }
 {
-    let origin = m.origin;
-    let destination = m.destination;
-    let portion = m.portion;
     let a = type_and_form(out, line, m.tag, m.fault);
-    let b = run(out, a, s, origin);
-    let c = run(out, b, s, destination);
-    let d = program_digits::spaced(out, c, portion.start as u64);
-    let e = program_digits::spaced(out, d, portion.length as u64);
+    let b = run(out, a, s, m.origin);
+    let c = run(out, b, s, m.destination);
+    let d = program_digits::spaced(out, c, m.portion.start as u64);
+    let e = program_digits::spaced(out, d, m.portion.length as u64);
     let f = cause(out, e, m.cause);
     program_text::put(out, f, b'\n')
 }
@@ -72,16 +67,16 @@ fn fault_line(out: &mut [u8], at: usize, c: Component) -> usize
     ensures { result ≤ length out.new }
 {
     let r = writing_rows::component_row(c, 0, at, 0, c.problem);
-    let a = program_text::word(out, 0, b"fault");
-    let b = program_digits::spaced(out, a, c.fault as u64);
-    let d = program_digits::spaced(out, b, r.start as u64);
-    let e = program_digits::spaced(out, d, r.length as u64);
-    program_text::put(out, e, b'\n')
+    let mut k = program_text::word(out, 0, b"fault");
+    for n in [u32::from(c.fault), r.start, r.length] {
+        k = program_digits::spaced(out, k, u64::from(n));
+    }
+    program_text::put(out, k, b'\n')
 }
 
 // A syntax fault at a position, where the components end at lim.
 fn fault(rt: &impl Print, s: &[u8], lim: usize, at: usize)
-    requires { (length s.now ≤ 512) × (at < 1024) }
+    requires { (length s.now ≤ 512) × (at ≤ lim) }
 {
     if s.len() < lim {
         return;
@@ -99,15 +94,10 @@ fn components(rt: &impl Print, s: &[u8], m: Message)
     if m.fault != IS_SOUND || m.from == 0 {
         return;
     }
-    let l = program_listing::components(rt, s, true);
-    if l.last == 0 {
-        fault(rt, s, m.to, m.from);
-        return;
-    }
-    let lim = l.last / 1024;
-    let at = l.last % 1024;
-    if at < lim {
-        fault(rt, s, lim, at);
+    match program_listing::components(rt, s, true).last {
+        None => fault(rt, s, m.to, m.from),
+        Some(k) if k.at < k.lim => fault(rt, s, k.lim, k.at),
+        Some(_) => {}
     }
 }
 
@@ -120,7 +110,7 @@ fn refused(rt: &impl Print, line: u64) {
 }
 
 pub fn message(rt: &impl Print, line: u64, s: &[u8]) {
-    if s.len() == 0 || s.len() > 512 {
+    if s.is_empty() || s.len() > LONGEST_MESSAGE {
         refused(rt, line);
         return;
     }

@@ -2,7 +2,11 @@
 use Rattle.std.specs.Prelude.{◌≡◌, Bool, true, false, List, [], ◌∷◌, ℕ, ◌+◌, ◌-◌, ◌<◌, ◌≤◌, length, get_or, take, drop}
 use Rattle.std.proofs.Math.Path.{refl, sym, ap}
 use Rattle.std.proofs.Common.{◌∙◌, arith, add-one, drop_of_length-le, drop-cons, eq-eqb, ne_eqb}
-use Rattle.laws.specs.If.{if_lt, if_eq, if_b, lt, ge, eq, ne, yes, no}
+use Rattle.std.specs.Prelude.{nat_eq, zero, suc, ◌&&◌}
+use Rattle.std.specs.List.{starts_with}
+use Rattle.std.specs.Prelude.{min}
+use Rattle.std.proofs.Math.Nat.{min-eq_left}
+use Rattle.laws.specs.If.{if_lt, if_eq, if_b, lt, ge, eq, ne, yes, no, by-lt, by-eq}
 use Rattle.paper.specs.Elements.{Reading}
 use Rattle.std.specs.Prelude.{Ok, Err}
 use Rattle.paper.specs.declared.Frame.{Frame}
@@ -38,6 +42,39 @@ stands_on l e q i v {r} h p = p ∙ rw (add-one i, drop-cons v i 0 h)
 pub stands-over : (l : List ℕ) (e q i : ℕ) (v : List ℕ) → length v ≤ i → true ≡ stands_at l e q (drop i v)
 unfolding stands_at
 stands-over l e q i v h = ap (stands_at l e q) (sym (drop_of_length-le v h))
+
+same-octet : (a b : ℕ) (t : Bool) → (nat_eq a b && t) ≡ if_eq b a t false
+same-octet a b t =
+    by-eq {r = if_eq b a t false} _ _ _ _ refl
+    (λ q e. ap (λ (s : Bool). s && t) (eq-eqb a b (sym q)) ∙ sym e)
+    (λ n e. ap (λ (s : Bool). s && t) (ne_eqb a b (λ q. n (sym q))) ∙ sym e)
+
+-- octets at a place up to the end, as a prefix of what stands there
+module _ (l : List ℕ) (e : ℕ) (inside : e ≤ length l) where
+  prefix-from : (p : ℕ) (v : List ℕ) → p ≤ e → starts_with nat_eq (take (e - p) (drop p l)) v ≡ stands_at l e p v
+  unfolding stands_at
+  prefix-from p [] h = refl
+  prefix-from p (x ∷ v) h = go (e - p) refl (prefix-from (p + 1) v)
+    where
+      go : (n : ℕ) → n ≡ e - p → (p + 1 ≤ e → starts_with nat_eq (take (e - (p + 1)) (drop (p + 1) l)) v ≡ stands_at l e (p + 1) v)
+          → starts_with nat_eq (take n (drop p l)) (x ∷ v) ≡ stands_at l e p (x ∷ v)
+      go zero q more = ge _ _ _ _ (omega arith) refl
+      go (suc n) q more =
+          let m : e - (p + 1) ≡ n = omega arith in
+          let i : starts_with nat_eq (take n (drop (p + 1) l)) v ≡ stands_at l e (p + 1) v = rw m at (more (omega arith)) in
+          rw (drop-cons l p 0 (omega arith), ← add-one p)
+          (lt _ _ _ _ (omega arith) (same-octet x (get_or l p 0) _ ∙ ap (λ (t : Bool). if_eq (get_or l p 0) x t false) i))
+
+  clamped : (p : ℕ) (v : List ℕ) → stands_at l e (min p e) v ≡ stands_at l e p v
+  unfolding stands_at
+  clamped p [] = refl
+  clamped p (x ∷ v) =
+      by-lt {r = if_lt p e true false} _ _ _ _ refl
+      (λ h q. ap (λ (n : ℕ). stands_at l e n (x ∷ v)) (min-eq_left (omega arith)))
+      (λ h q. let m : e ≤ min p e = omega arith in sym (ge _ _ _ _ m refl) ∙ ge _ _ _ _ h refl)
+
+  pub prefix-stands : (p m : ℕ) (v : List ℕ) → m ≡ min p e → starts_with nat_eq (take (e - m) (drop m l)) v ≡ stands_at l e p v
+  prefix-stands p m v q = prefix-from m v (omega arith) ∙ ap (λ (n : ℕ). stands_at l e n v) q ∙ clamped p v
 
 -- an element and nothing after it
 pub only-by : (l : List ℕ) (d tag e p : ℕ) (f : Frame) → f ≡ tagged l d tag e p → f.stop ≡ e → f ≡ only l d tag e p

@@ -1,62 +1,56 @@
 // A dialogue portion read (02 a; 004, 4.2.3). Positions into the portion's own octets l; e is where the octets around end.
 #![tactic(auto)]
 
-ghost use Rattle.std.specs.Prelude.{true, ◌≡◌, ◌+◌, ◌-◌, ◌<◌, ◌≤◌, length};
+ghost use Rattle.std.specs.Prelude.{true, ◌≡◌, ◌+◌, ◌-◌, ◌<◌, ◌≤◌, length, unwrap_or, IfSome};
 ghost use Rattle.reading_elements.specs.Bounds.{FrameIn};
-ghost use Rattle.paper.specs.Portions.{Piece, structured, unstructured, aarq, aare, abrt, audt, forms};
+ghost use Rattle.paper.specs.Components.{no_id};
+ghost use Rattle.paper.specs.Portions.{Piece, aarq, aare, abrt, audt, forms};
 ghost use Rattle.paper.specs.Portions.{tagged, only, stands_at, value_in, goes_to, with_diagnostic, piece, unread, all_pieces, external, in_form, read_by, portion_of};
 ghost use Rattle.paper.specs.Portions.{run_from, from_start, portion_at, eight, portion_row};
-ghost use Rattle.paper.specs.Writing.{tlv};
 ghost use Rattle.reading_portion.specs.Steps.{pdu_by};
 ghost use Rattle.reading_portion.specs.Bounds.{RunIn, PortionIn};
 
 use paper::{
-    AARE, AARQ, ABRT, AUDT, DEPTHS, DEPTHS_FROM_2, DEPTHS_FROM_3, DEPTHS_FROM_4, DEPTHS_FROM_5,
-    DEPTHS_FROM_6, Frame, NO_ID, Pdu, Portion, Reading, Row, Run,
+    DEPTHS, DEPTHS_FROM_2, DEPTHS_FROM_3, DEPTHS_FROM_4, DEPTHS_FROM_5, DEPTHS_FROM_6, Frame, Pdu,
+    PduKind, Portion, Row, Run,
 };
 
 // "65,535 none", of a result, a diagnostic or a source.
 const NO_VALUE: u32 = 65535;
 
-// The kinds beside those of the four PDUs.
-const ABSENT: u8 = 0;
+// The kinds beside those of the four PDUs, as in a row.
+const ABSENT: u32 = 0;
 
-const OPAQUE: u8 = 1;
+const OPAQUE: u32 = 1;
 
-const NO_FRAME: Frame = Frame {
-    from: 0,
-    to: 0,
-    stop: 0,
-};
+// The two object identifiers, each a whole 06 element: "00 11 86 05 01 01 01 (structured)", "and 00 11 86 05 01 02 01 (unstructured)".
+const STRUCTURED: [u8; 9] = [6, 7, 0, 0x11, 0x86, 5, 1, 1, 1];
 
-const NO_RUN: Run = Run {
-    start: 0,
-    length: 0,
-};
+const UNSTRUCTURED: [u8; 9] = [6, 7, 0, 0x11, 0x86, 5, 1, 2, 1];
 
 // The element at p, if it is of that tag, with `left` depths to go.
+#[tactic(auto, unfolding(paper::specs::Portions::tagged, laws::specs::If::if_lt, laws::specs::If::if_eq))]
 fn tagged(l: &[u8], left: usize, tag: u8, e: usize, p: usize) -> Frame
     requires { e ≤ length l.now }
     ensures is { result ≡ tagged l.now left tag e p }
     ensures within { FrameIn p e result }
 {
     if reading_components::tag_at(l, e, p) == tag {
-        return reading_elements::frame_at(l, left, e, p);
+        reading_elements::frame_at(l, left, e, p)
+    } else {
+        Frame::NONE
     }
-    NO_FRAME
 }
 
 // And nothing after it.
+#[tactic(auto, unfolding(paper::specs::Portions::only, laws::specs::If::if_lt, laws::specs::If::if_eq))]
 fn only(l: &[u8], left: usize, tag: u8, e: usize, p: usize) -> Frame
     requires { e ≤ length l.now }
     ensures is { result ≡ only l.now left tag e p }
     ensures within { FrameIn p e result }
 {
     let f = tagged(l, left, tag, e, p);
-    if f.stop == e {
-        return f;
-    }
-    NO_FRAME
+    if f.stop == e { f } else { Frame::NONE }
 }
 
 // Whether the octets v stand from p on.
@@ -65,47 +59,34 @@ fn stands(l: &[u8], e: usize, p: usize, v: &[u8]) -> bool
     ensures is { result ≡ stands_at l.now e p v.now }
     ensures within { result ≡ true → 0 < length v.now → p + length v.now ≤ e }
 {
-    let mut q = p;
-    let mut i = 0;
-    while i < v.len() {
-        if q >= e {
-            return false;
-        }
-        if l[q] != v[i] {
-            return false;
-        }
-        q += 1;
-        i += 1;
-    }
-    true
+    l[p.min(e)..e].starts_with(v)
 }
 
-// `02 01` with a value of at most so much, and nothing after it; else 256.
-fn value_in(l: &[u8], most: u32, f: Frame) -> u32
+// `02 01` with a value of at most so much, and nothing after it.
+#[tactic(auto, unfolding(paper::specs::Portions::value_in, laws::specs::If::if_lt, laws::specs::If::if_eq))]
+fn value_in(l: &[u8], most: u32, f: Frame) -> Option<u32>
     requires { (f.from ≤ f.to) × (f.to ≤ length l.now) }
-    ensures is { result ≡ value_in l.now most f }
-    ensures within { result ≤ 256 }
+    ensures is { unwrap_or result no_id ≡ value_in l.now most f }
+    ensures within { IfSome result (λ v. v < 256) }
 {
     if f.to - f.from != 3 {
-        return NO_ID;
+        return None;
     }
-    let v = reading_components::single(l, 2, f.to, f.from);
-    if most < v {
-        return NO_ID;
+    match reading_components::single(l, 2, f.to, f.from) {
+        Some(v) if v <= most => Some(v),
+        _ => None,
     }
-    v
 }
 
 // What is read so far, with the next piece at another place; 0: a piece is wrong.
 fn goes_to(w: Pdu, at: usize) -> Pdu
     ensures { result ≡ goes_to w at }
 {
-    let mut v = w;
-    v.at = at;
-    v
+    Pdu { at, ..w }
 }
 
 // "a protocol version before the name .. is stepped over"
+#[tactic(auto, unfolding(paper::specs::Portions::piece, laws::specs::If::if_lt, laws::specs::If::if_eq))]
 fn version_at(l: &[u8], e: usize, w: Pdu) -> Pdu
     requires { e ≤ length l.now }
     ensures { result ≡ piece l.now e w Piece.Version }
@@ -118,6 +99,7 @@ fn version_at(l: &[u8], e: usize, w: Pdu) -> Pdu
 }
 
 // The A1 holds the name, a 06 element of at least 1 octet.
+#[tactic(auto, unfolding(paper::specs::Portions::piece, paper::specs::Portions::name_in, paper::specs::Components::tag_at, laws::specs::If::if_lt, laws::specs::If::if_eq))]
 fn name_at(l: &[u8], e: usize, w: Pdu) -> Pdu
     requires { e ≤ length l.now }
     ensures { result ≡ piece l.now e w Piece.Name }
@@ -126,96 +108,90 @@ fn name_at(l: &[u8], e: usize, w: Pdu) -> Pdu
     if reading_components::tag_at(l, f.to, f.from) != 6 {
         return goes_to(w, 0);
     }
-    if reading_components::code_end(l, f.to, f.from) != f.to {
-        return goes_to(w, 0);
+    match reading_components::code_end(l, f.to, f.from) {
+        Some(end) if end == f.to => Pdu {
+            at: f.stop,
+            name: run_of(f.from, f.to),
+            ..w
+        },
+        _ => goes_to(w, 0),
     }
-    let name = Run {
-        start: f.from,
-        length: f.to - f.from,
-    };
-    let mut v = w;
-    v.name = name;
-    v.at = f.stop;
-    v
 }
 
 // The A2 holds the result, 0 or 1.
+#[tactic(auto, unfolding(paper::specs::Portions::piece, paper::specs::Portions::result_in, laws::specs::If::if_lt, laws::specs::If::if_eq))]
 fn result_at(l: &[u8], e: usize, w: Pdu) -> Pdu
     requires { e ≤ length l.now }
     ensures { result ≡ piece l.now e w Piece.Result }
 {
     let f = tagged(l, DEPTHS_FROM_5, 0xA2, e, w.at);
-    let result = value_in(l, 1, f);
-    if result == NO_ID {
-        return goes_to(w, 0);
+    match value_in(l, 1, f) {
+        Some(result) => Pdu {
+            at: f.stop,
+            result,
+            ..w
+        },
+        None => goes_to(w, 0),
     }
-    let mut v = w;
-    v.result = result;
-    v.at = f.stop;
-    v
 }
 
 // What is read so far, and a diagnostic.
 fn with_diagnostic(w: Pdu, diagnostic: u32, stop: usize) -> Pdu
     ensures { result ≡ with_diagnostic w diagnostic stop }
 {
-    let mut v = w;
-    v.diagnostic = diagnostic;
-    v.at = stop;
-    v
+    Pdu {
+        at: stop,
+        diagnostic,
+        ..w
+    }
 }
 
 // The A3 holds A1 (user) or A2 (provider).
+#[tactic(auto, unfolding(paper::specs::Portions::piece, paper::specs::Portions::diagnostic_in, laws::specs::If::if_lt, laws::specs::If::if_eq))]
 fn diagnostic_at(l: &[u8], e: usize, w: Pdu) -> Pdu
     requires { e ≤ length l.now }
     ensures { result ≡ piece l.now e w Piece.Diagnostic }
 {
     let f = tagged(l, DEPTHS_FROM_5, 0xA3, e, w.at);
-    let a = only(l, DEPTHS_FROM_6, 0xA1, f.to, f.from);
-    let user = value_in(l, 2, a);
-    if user != NO_ID {
-        return with_diagnostic(w, 256 + user, f.stop);
+    let user = only(l, DEPTHS_FROM_6, 0xA1, f.to, f.from);
+    if let Some(value) = value_in(l, 2, user) {
+        return with_diagnostic(w, 256 + value, f.stop);
     }
-    let b = only(l, DEPTHS_FROM_6, 0xA2, f.to, f.from);
-    let provider = value_in(l, 2, b);
-    if provider != NO_ID {
-        return with_diagnostic(w, 512 + provider, f.stop);
+    let provider = only(l, DEPTHS_FROM_6, 0xA2, f.to, f.from);
+    match value_in(l, 2, provider) {
+        Some(value) => with_diagnostic(w, 512 + value, f.stop),
+        None => goes_to(w, 0),
     }
-    goes_to(w, 0)
 }
 
 // The abort source, 0 or 1, is an 80 of its own.
+#[tactic(auto, unfolding(paper::specs::Portions::piece, laws::specs::If::if_lt, laws::specs::If::if_eq))]
 fn source_at(l: &[u8], e: usize, w: Pdu) -> Pdu
     requires { e ≤ length l.now }
     ensures { result ≡ piece l.now e w Piece.Source }
 {
-    let source = reading_components::single(l, 0x80, e, w.at);
-    if source > 1 {
-        return goes_to(w, 0);
+    match reading_components::single(l, 0x80, e, w.at) {
+        Some(source) if source <= 1 => Pdu {
+            at: w.at + 3,
+            source,
+            ..w
+        },
+        _ => goes_to(w, 0),
     }
-    let mut v = w;
-    v.source = source;
-    v.at = w.at + 3;
-    v
 }
 
 // From a to b, none where b is before a.
 fn run_of(a: usize, b: usize) -> Run
     ensures { result ≡ record { start = a; length = b - a } }
 {
-    if b < a {
-        return Run {
-            start: a,
-            length: 0,
-        };
-    }
     Run {
         start: a,
-        length: b - a,
+        length: b.saturating_sub(a),
     }
 }
 
 // User information may be absent.
+#[tactic(auto, unfolding(paper::specs::Portions::piece, laws::specs::If::if_lt, laws::specs::If::if_eq))]
 fn information_at(l: &[u8], e: usize, w: Pdu) -> Pdu
     requires { e ≤ length l.now }
     ensures { result ≡ piece l.now e w Piece.Information }
@@ -224,11 +200,11 @@ fn information_at(l: &[u8], e: usize, w: Pdu) -> Pdu
         return w;
     }
     let f = reading_elements::frame_at(l, DEPTHS_FROM_5, e, w.at);
-    let information = run_of(w.at, f.stop);
-    let mut v = w;
-    v.information = information;
-    v.at = f.stop;
-    v
+    Pdu {
+        at: f.stop,
+        information: run_of(w.at, f.stop),
+        ..w
+    }
 }
 
 // No piece is read yet.
@@ -237,8 +213,8 @@ fn unread(at: usize) -> Pdu
 {
     Pdu {
         at,
-        name: NO_RUN,
-        information: NO_RUN,
+        name: Run::NONE,
+        information: Run::NONE,
         result: NO_VALUE,
         diagnostic: NO_VALUE,
         source: NO_VALUE,
@@ -246,6 +222,7 @@ fn unread(at: usize) -> Pdu
 }
 
 // The pieces of a dialogue request, or of a unidirectional PDU.
+#[tactic(auto, unfolding(paper::specs::Portions::all_pieces, laws::specs::If::if_lt, laws::specs::If::if_eq))]
 fn request_pieces(l: &[u8], pdu: Frame) -> Pdu
     requires { pdu.to ≤ length l.now }
     ensures { result ≡ all_pieces l.now pdu.to (unread pdu.from) aarq.pieces }
@@ -257,34 +234,37 @@ fn request_pieces(l: &[u8], pdu: Frame) -> Pdu
 }
 
 // A dialogue request (AARQ): its pieces, and nothing after them.
+#[tactic(auto, unfolding(paper::specs::Portions::all_pieces, laws::specs::If::if_lt, laws::specs::If::if_eq))]
 fn request(l: &[u8], pdu: Frame) -> Portion
     requires { pdu.to ≤ length l.now }
     ensures { result ≡ in_form aarq l.now pdu }
 {
     let w = request_pieces(l, pdu);
-    if w.at != pdu.to {
-        return Portion::Opaque;
+    if w.at == pdu.to {
+        Portion::Aarq(w.name, w.information)
+    } else {
+        Portion::Opaque
     }
-    let name = w.name;
-    let information = w.information;
-    Portion::Aarq(name, information)
 }
 
 // A unidirectional PDU (AUDT).
+// Stays: what it shares with `request` is the one test at the end; over a closure that makes the variant it would be no shorter.
+#[tactic(auto, unfolding(paper::specs::Portions::all_pieces, laws::specs::If::if_lt, laws::specs::If::if_eq))]
 fn unidirectional(l: &[u8], pdu: Frame) -> Portion
     requires { pdu.to ≤ length l.now }
     ensures { result ≡ in_form audt l.now pdu }
 {
     let w = request_pieces(l, pdu);
-    if w.at != pdu.to {
-        return Portion::Opaque;
+    if w.at == pdu.to {
+        Portion::Audt(w.name, w.information)
+    } else {
+        Portion::Opaque
     }
-    let name = w.name;
-    let information = w.information;
-    Portion::Audt(name, information)
 }
 
 // A dialogue response (AARE).
+// Stays: what it shares with `request` is the one test at the end; over a closure that makes the variant it would be no shorter.
+#[tactic(auto, unfolding(paper::specs::Portions::all_pieces, laws::specs::If::if_lt, laws::specs::If::if_eq))]
 fn response(l: &[u8], pdu: Frame) -> Portion
     requires { pdu.to ≤ length l.now }
     ensures { result ≡ in_form aare l.now pdu }
@@ -295,15 +275,16 @@ fn response(l: &[u8], pdu: Frame) -> Portion
     let d = result_at(l, pdu.to, c);
     let f = diagnostic_at(l, pdu.to, d);
     let w = information_at(l, pdu.to, f);
-    if w.at != pdu.to {
-        return Portion::Opaque;
+    if w.at == pdu.to {
+        Portion::Aare(w.name, w.information, w.result, w.diagnostic)
+    } else {
+        Portion::Opaque
     }
-    let name = w.name;
-    let information = w.information;
-    Portion::Aare(name, information, w.result, w.diagnostic)
 }
 
 // A dialogue abort (ABRT).
+// Stays: what it shares with `request` is the one test at the end; over a closure that makes the variant it would be no shorter.
+#[tactic(auto, unfolding(paper::specs::Portions::all_pieces, laws::specs::If::if_lt, laws::specs::If::if_eq))]
 fn abort(l: &[u8], pdu: Frame) -> Portion
     requires { pdu.to ≤ length l.now }
     ensures { result ≡ in_form abrt l.now pdu }
@@ -311,14 +292,15 @@ fn abort(l: &[u8], pdu: Frame) -> Portion
     let a = unread(pdu.from);
     let b = source_at(l, pdu.to, a);
     let w = information_at(l, pdu.to, b);
-    if w.at != pdu.to {
-        return Portion::Opaque;
+    if w.at == pdu.to {
+        Portion::Abrt(w.source, w.information)
+    } else {
+        Portion::Opaque
     }
-    let information = w.information;
-    Portion::Abrt(w.source, information)
 }
 
 // What the 6B holds: the 28 alone.
+#[tactic(auto, unfolding(paper::specs::Portions::external, laws::specs::If::if_lt, laws::specs::If::if_eq))]
 fn external(l: &[u8]) -> Frame
     ensures is { result ≡ external l.now }
     ensures within { (result.from ≤ result.to) × (result.to ≤ length l.now) }
@@ -328,36 +310,17 @@ fn external(l: &[u8]) -> Frame
 }
 
 // In the 28 x the object identifier's octets and the A0 and nothing else, in the A0 the PDU of that tag and nothing else.
+#[tactic(auto, unfolding(crate::specs::Steps::pdu_by, laws::specs::If::if_b))]
 fn pdu_by(l: &[u8], x: Frame, identifier: &[u8], tag: u8) -> Frame
     requires { (x.to ≤ length l.now) × (0 < length identifier.now) }
     ensures is { result ≡ pdu_by identifier.now tag l.now x }
     ensures within { result.to ≤ length l.now }
 {
-    if stands(l, x.to, x.from, identifier) {
-        let a = only(l, DEPTHS_FROM_3, 0xA0, x.to, x.from + identifier.len());
-        return only(l, DEPTHS_FROM_4, tag, a.to, a.from);
+    if !stands(l, x.to, x.from, identifier) {
+        return Frame::NONE;
     }
-    NO_FRAME
-}
-
-// "object identifiers 00 11 86 05 01 01 01 (structured)"
-fn structured(l: &[u8], x: Frame, tag: u8) -> Frame
-    requires { x.to ≤ length l.now }
-    ensures is { result ≡ pdu_by (tlv 6 structured) tag l.now x }
-    ensures within { result.to ≤ length l.now }
-{
-    let identifier: [u8; 9] = [6, 7, 0, 0x11, 0x86, 5, 1, 1, 1];
-    pdu_by(l, x, &identifier, tag)
-}
-
-// "and 00 11 86 05 01 02 01 (unstructured)"
-fn unstructured(l: &[u8], x: Frame, tag: u8) -> Frame
-    requires { x.to ≤ length l.now }
-    ensures is { result ≡ pdu_by (tlv 6 unstructured) tag l.now x }
-    ensures within { result.to ≤ length l.now }
-{
-    let identifier: [u8; 9] = [6, 7, 0, 0x11, 0x86, 5, 1, 2, 1];
-    pdu_by(l, x, &identifier, tag)
+    let a = only(l, DEPTHS_FROM_3, 0xA0, x.to, x.from + identifier.len());
+    only(l, DEPTHS_FROM_4, tag, a.to, a.from)
 }
 
 // By its form: the object identifier and the PDU's tag.
@@ -365,19 +328,19 @@ fn by_form(l: &[u8]) -> Portion
     ensures { result ≡ read_by forms l.now }
 {
     let x = external(l);
-    let a = structured(l, x, 0x60);
+    let a = pdu_by(l, x, &STRUCTURED, 0x60);
     if a.stop != 0 {
         return request(l, a);
     }
-    let b = structured(l, x, 0x61);
+    let b = pdu_by(l, x, &STRUCTURED, 0x61);
     if b.stop != 0 {
         return response(l, b);
     }
-    let c = structured(l, x, 0x64);
+    let c = pdu_by(l, x, &STRUCTURED, 0x64);
     if c.stop != 0 {
         return abort(l, c);
     }
-    let d = unstructured(l, x, 0x60);
+    let d = pdu_by(l, x, &UNSTRUCTURED, 0x60);
     if d.stop != 0 {
         return unidirectional(l, d);
     }
@@ -394,27 +357,23 @@ pub fn portion(l: &[u8]) -> Portion
         return Portion::Absent;
     }
     match reading_elements::element(l, DEPTHS, n, 0) {
-        Err(_f) => Portion::Absent,
-        Ok(e) => {
-            if e != n {
-                return Portion::Absent;
-            }
-            by_form(l)
-        }
+        Ok(e) if e == n => by_form(l),
+        _ => Portion::Absent,
     }
 }
 
 // A run of octets that begin at k of a message.
+#[tactic(auto, unfolding(paper::specs::Portions::run_from, laws::specs::If::if_lt, laws::specs::If::if_eq))]
 fn run_from(k: usize, r: Run) -> Run
     requires { k + r.start ≤ 0xFFFFFFFF }
     ensures { result ≡ run_from k r }
 {
     if r.length == 0 {
-        return NO_RUN;
+        return Run::NONE;
     }
     Run {
         start: k + r.start,
-        length: r.length,
+        ..r
     }
 }
 
@@ -434,34 +393,31 @@ fn from_start(k: usize, p: Portion) -> Portion
 }
 
 // The portion at a run of a message, as a row gives it: a run that reaches further is none.
+#[tactic(auto, unfolding(paper::specs::Portions::portion_at, laws::specs::If::if_lt, laws::specs::If::if_eq))]
 pub fn portion_at(s: &[u8], start: usize, len: usize) -> Portion
     ensures is { result ≡ portion_at s.now start len }
     ensures within { PortionIn (length s.now) result }
     ensures small { PortionIn 0xFFFFFFFF result }
 {
     let n = s.len();
-    if start > n {
-        return Portion::Absent;
-    }
-    if n - start < len {
+    if start > n || n - start < len {
         return Portion::Absent;
     }
     let end = start + len;
     if end > 0xFFFFFFFF {
         return Portion::Absent;
     }
-    let l = &s[start..end];
-    let p = portion(l);
+    let p = portion(&s[start..end]);
     from_start(start, p)
 }
 
 // The eight numbers of a row, of a portion's kind and parts.
-fn row(kind: u8, n: Run, i: Run, res: u32, diagnostic: u32, source: u32) -> Row
+fn row(kind: u32, n: Run, i: Run, res: u32, diagnostic: u32, source: u32) -> Row
     requires { RunIn 0xFFFFFFFF n × RunIn 0xFFFFFFFF i }
     ensures { result ≡ eight kind n i res diagnostic source }
 {
     Row {
-        kind: kind as u32,
+        kind,
         dialogue: n.start as u32,
         invoke: n.length as u32,
         linked: i.start as u32,
@@ -478,11 +434,18 @@ pub fn row_of(p: Portion) -> Row
     ensures { result ≡ portion_row p }
 {
     match p {
-        Portion::Absent => row(ABSENT, NO_RUN, NO_RUN, NO_VALUE, NO_VALUE, NO_VALUE),
-        Portion::Opaque => row(OPAQUE, NO_RUN, NO_RUN, NO_VALUE, NO_VALUE, NO_VALUE),
-        Portion::Aarq(n, i) => row(AARQ, n, i, NO_VALUE, NO_VALUE, NO_VALUE),
-        Portion::Aare(n, i, r, d) => row(AARE, n, i, r, d, NO_VALUE),
-        Portion::Abrt(s, i) => row(ABRT, NO_RUN, i, NO_VALUE, NO_VALUE, s),
-        Portion::Audt(n, i) => row(AUDT, n, i, NO_VALUE, NO_VALUE, NO_VALUE),
+        Portion::Absent => row(ABSENT, Run::NONE, Run::NONE, NO_VALUE, NO_VALUE, NO_VALUE),
+        Portion::Opaque => row(OPAQUE, Run::NONE, Run::NONE, NO_VALUE, NO_VALUE, NO_VALUE),
+        Portion::Aarq(n, i) => row(PduKind::Request.into(), n, i, NO_VALUE, NO_VALUE, NO_VALUE),
+        Portion::Aare(n, i, r, d) => row(PduKind::Response.into(), n, i, r, d, NO_VALUE),
+        Portion::Abrt(s, i) => row(PduKind::Abort.into(), Run::NONE, i, NO_VALUE, NO_VALUE, s),
+        Portion::Audt(n, i) => row(
+            PduKind::Unidirectional.into(),
+            n,
+            i,
+            NO_VALUE,
+            NO_VALUE,
+            NO_VALUE,
+        ),
     }
 }

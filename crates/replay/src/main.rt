@@ -4,21 +4,14 @@
 #![tactic(auto)]
 
 use paper::{LEAST_ROWS, LEAST_SPACE, TABLE_OCTETS};
-use program_play::Player;
+use program_play::Lent;
+use program_replay::Replay;
 
 fn main(rt: HostRuntime) {
-    let mut buf = [0u8; 65536];
-    let mut table = [0u8; TABLE_OCTETS];
-    let mut rows = [0u8; LEAST_ROWS];
-    let mut space = [0u8; LEAST_SPACE];
-    let mut line = [0u8; 16384];
-    program_play::lines(
-        &rt,
-        Player::Replay,
-        &mut buf,
-        &mut table,
-        &mut rows,
-        &mut space,
-        &mut line,
-    );
+    let mut lent = Lent {
+        table: &mut [0; TABLE_OCTETS],
+        rows: &mut [0; LEAST_ROWS],
+        space: &mut [0; LEAST_SPACE],
+    };
+    program_play::lines::<Replay>(&rt, &mut lent, &mut [0; 65536], &mut [0; 16384]);
 }

@@ -4,26 +4,20 @@
 #![tactic(auto)]
 
 use paper::{LEAST_ROWS, LEAST_SPACE, TABLE_OCTETS};
-use program_play::Player;
+use program_play::Lent;
+use program_session::Session;
 
 // A long line's space is lent as an array: a slice of so many octets would have the prover count them.
-fn lend(
-    rt: &(impl Print + Input),
-    buf: &mut [u8],
-    table: &mut [u8],
-    rows: &mut [u8],
-    space: &mut [u8],
-    line: &mut [u8; 1048576],
-) {
-    program_play::lines(rt, Player::Session, buf, table, rows, space, line);
+fn play(rt: &(impl Print + Input), lent: &mut Lent, line: &mut [u8; 1048576]) {
+    program_play::lines::<Session>(rt, lent, &mut [0; 65536], line);
 }
 
 fn main(rt: HostRuntime) {
-    let mut buf = [0u8; 65536];
-    let mut table = [0u8; TABLE_OCTETS];
-    let mut rows = [0u8; LEAST_ROWS];
-    let mut space = [0u8; LEAST_SPACE];
-    let mut line = [0u8; 1048576];
-    call_open::fresh(&mut table, &[4u8; 16], &[64u8; 16]);
-    lend(&rt, &mut buf, &mut table, &mut rows, &mut space, &mut line);
+    let mut lent = Lent {
+        table: &mut [0; TABLE_OCTETS],
+        rows: &mut [0; LEAST_ROWS],
+        space: &mut [0; LEAST_SPACE],
+    };
+    call_open::fresh(lent.table, &[4; 16], &[64; 16]);
+    play(&rt, &mut lent, &mut [0; 1048576]);
 }

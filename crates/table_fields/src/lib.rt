@@ -6,77 +6,64 @@
 
 ghost use Rattle.std.specs.Prelude.{◌≡◌, ◌+◌, ◌*◌, ◌<◌, length, get_or};
 ghost use Rattle.paper.specs.Sizes.{places_in_all, most_invocations, most_rejects, turns};
-ghost use Rattle.paper.specs.Layout.{table_size, place_size, waiting_length_at, first_invocation, first_reject, invocation_by, reject_by, control_by, slot};
+ghost use Rattle.paper.specs.Layout.{table_size, waiting_length_at, first_invocation, first_reject, invocation_by, reject_by, control_by, slot};
 
 use paper::{
-    Control, INVOCATIONS, Invocation, PEER, PEER_LENGTH, PLACE_OCTETS, PLACES, REJECTS,
-    REJECTS_WAITING, Reject, SERVICE, STATE, TURN, WAITING_LENGTH,
+    Control, INVOCATIONS, Invocation, MOST_INVOCATIONS, MOST_REJECTS, PEER, PEER_LENGTH,
+    PLACE_OCTETS, PLACES, REJECTS, REJECTS_WAITING, Reject, SERVICE, STATE, TURN, WAITING_LENGTH,
 };
+use std::array;
 
 // The octets of place p.
-pub fn slot(t: &[u8], p: usize) -> &[u8]
+pub fn slot(t: &[u8], p: usize) -> &[u8; PLACE_OCTETS]
     requires { (p < places_in_all) × (length t.now ≡ table_size) }
     ensures is { result.now ≡ slot t.now p }
-    ensures long { length result.now ≡ place_size }
 {
     let a = PLACES + p * PLACE_OCTETS;
-    let e = a + PLACE_OCTETS;
-    &t[a..e]
+    let rec = &t[a..a + PLACE_OCTETS];
+    rec.first_chunk().unwrap()
 }
 
 // "its turn in three, high first"
-fn turn_of(a: u8, b: u8, c: u8) -> u32
-    ensures { (result ≡ a * 65536 + b * 256 + c) × (result < turns) }
-{
-    (a as u32) * 65536 + (b as u32) * 256 + (c as u32)
-}
-
-pub fn turn(rec: &[u8]) -> u32
-    requires { length rec.now ≡ place_size }
+pub fn turn(rec: &[u8; PLACE_OCTETS]) -> u32
     ensures { (result ≡ (control_by rec.now).turn) × (result < turns) }
 {
-    turn_of(rec[TURN], rec[TURN + 1], rec[TURN + 2])
+    u32::from_be_bytes([0, rec[TURN], rec[TURN + 1], rec[TURN + 2]])
 }
 
-pub fn state(rec: &[u8]) -> u8
-    requires { length rec.now ≡ place_size }
+pub fn state(rec: &[u8; PLACE_OCTETS]) -> u8
     ensures { result ≡ (control_by rec.now).state }
 {
     rec[STATE]
 }
 
-pub fn service(rec: &[u8]) -> u8
-    requires { length rec.now ≡ place_size }
+pub fn service(rec: &[u8; PLACE_OCTETS]) -> u8
     ensures { result ≡ (control_by rec.now).service }
 {
     rec[SERVICE]
 }
 
-pub fn peer_length(rec: &[u8]) -> u8
-    requires { length rec.now ≡ place_size }
+pub fn peer_length(rec: &[u8; PLACE_OCTETS]) -> u8
     ensures { result ≡ (control_by rec.now).peerlen }
 {
     rec[PEER_LENGTH]
 }
 
-pub fn peer(rec: &[u8]) -> [u8; 4]
-    requires { length rec.now ≡ place_size }
+pub fn peer(rec: &[u8; PLACE_OCTETS]) -> [u8; 4]
     ensures { result ≡ (control_by rec.now).peer }
 {
-    [rec[PEER], rec[PEER + 1], rec[PEER + 2], rec[PEER + 3]]
+    *rec[PEER..].first_chunk().unwrap()
 }
 
 // How many octets wait.
-pub fn waiting_length(rec: &[u8]) -> u8
-    requires { length rec.now ≡ place_size }
+pub fn waiting_length(rec: &[u8; PLACE_OCTETS]) -> u8
     ensures { result ≡ get_or rec.now waiting_length_at 0 }
 {
     rec[WAITING_LENGTH]
 }
 
 // How many rejects wait.
-pub fn rejects_waiting(rec: &[u8]) -> u8
-    requires { length rec.now ≡ place_size }
+pub fn rejects_waiting(rec: &[u8; PLACE_OCTETS]) -> u8
     ensures { result ≡ (control_by rec.now).count }
 {
     rec[REJECTS_WAITING]
@@ -86,7 +73,7 @@ pub fn invocation_by(id: u8, o: u8) -> Invocation
     ensures { result ≡ invocation_by id o }
 {
     Invocation {
-        id: id,
+        id,
         class: o / 8 % 8,
         state: o % 8,
         shown: o / 64,
@@ -94,35 +81,25 @@ pub fn invocation_by(id: u8, o: u8) -> Invocation
 }
 
 // Invocation i of the eight.
-pub fn invocation_at(rec: &[u8], i: usize) -> Invocation
-    requires { (length rec.now ≡ place_size) × (i < most_invocations) }
+pub fn invocation_at(rec: &[u8; PLACE_OCTETS], i: usize) -> Invocation
+    requires { i < most_invocations }
     ensures { result ≡ invocation_by (get_or rec.now (first_invocation + 2 * i) 0) (get_or rec.now (first_invocation + 2 * i + 1) 0) }
 {
     let a = INVOCATIONS + 2 * i;
     invocation_by(rec[a], rec[a + 1])
 }
 
-pub fn invocations(rec: &[u8]) -> [Invocation; 8]
-    requires { length rec.now ≡ place_size }
+pub fn invocations(rec: &[u8; PLACE_OCTETS]) -> [Invocation; MOST_INVOCATIONS]
     ensures { result ≡ (control_by rec.now).invocations }
 {
-    [
-        invocation_at(rec, 0),
-        invocation_at(rec, 1),
-        invocation_at(rec, 2),
-        invocation_at(rec, 3),
-        invocation_at(rec, 4),
-        invocation_at(rec, 5),
-        invocation_at(rec, 6),
-        invocation_at(rec, 7),
-    ]
+    array::from_fn(|i| invocation_at(rec, i))
 }
 
 pub fn reject_by(id: u8, o: u8) -> Reject
     ensures { result ≡ reject_by id o }
 {
-    let i = laws::number(id);
-    let n = laws::number(o);
+    let i = u32::from(id);
+    let n = u32::from(o);
     Reject {
         id: n / 128 * 256 + i,
         problem: n / 8 % 16 * 256 + n % 8,
@@ -130,33 +107,22 @@ pub fn reject_by(id: u8, o: u8) -> Reject
 }
 
 // Reject i of the eight.
-pub fn reject_at(rec: &[u8], i: usize) -> Reject
-    requires { (length rec.now ≡ place_size) × (i < most_rejects) }
+pub fn reject_at(rec: &[u8; PLACE_OCTETS], i: usize) -> Reject
+    requires { i < most_rejects }
     ensures { result ≡ reject_by (get_or rec.now (first_reject + 2 * i) 0) (get_or rec.now (first_reject + 2 * i + 1) 0) }
 {
     let a = REJECTS + 2 * i;
     reject_by(rec[a], rec[a + 1])
 }
 
-pub fn rejects(rec: &[u8]) -> [Reject; 8]
-    requires { length rec.now ≡ place_size }
+pub fn rejects(rec: &[u8; PLACE_OCTETS]) -> [Reject; MOST_REJECTS]
     ensures { result ≡ (control_by rec.now).rejects }
 {
-    [
-        reject_at(rec, 0),
-        reject_at(rec, 1),
-        reject_at(rec, 2),
-        reject_at(rec, 3),
-        reject_at(rec, 4),
-        reject_at(rec, 5),
-        reject_at(rec, 6),
-        reject_at(rec, 7),
-    ]
+    array::from_fn(|i| reject_at(rec, i))
 }
 
 // All of a place but its waiting octets.
-pub fn control(rec: &[u8]) -> Control
-    requires { length rec.now ≡ place_size }
+pub fn control(rec: &[u8; PLACE_OCTETS]) -> Control
     ensures { result ≡ control_by rec.now }
 {
     Control {

@@ -9,7 +9,8 @@ use Rattle.laws.specs.Lists.{span-part}
 use Rattle.laws.specs.Digits.{digits, octet_digits, word_at, word-digits, map-digit, digit-div, digit_room, digit-le}
 use Rattle.paper.specs.Layout.{map_bit}
 
-pub power_at : (q : ℕ) → q < 8 → get_or (1 ∷ 2 ∷ 4 ∷ 8 ∷ 16 ∷ 32 ∷ 64 ∷ 128 ∷ []) q 0 ≡ 2 ^ q
+-- a bit of an octet, as a shift makes it
+pub power_at : (q : ℕ) → q < 8 → 1 * 2 ^ q % 256 ≡ 2 ^ q
 power_at zero h = refl
 power_at (suc zero) h = refl
 power_at (suc (suc zero)) h = refl

@@ -11,7 +11,7 @@ use Rattle.paper.specs.declared.Control.{Control}
 use Rattle.paper.specs.Sizes.{places_in_all, most_waiting, next_turn}
 use Rattle.paper.specs.Dialogues.{Place, empty_place, with_control, freed}
 use Rattle.paper.specs.Calls.{place_at, with_place}
-use Rattle.paper.specs.Layout.{place_start, place_octets, place_size, waiting_start, place_by, flag, encode, view, map_bit}
+use Rattle.paper.specs.Layout.{place_start, place_octets, place_size, waiting_start, flag, encode, view, map_bit}
 use Rattle.table_map.specs.Map.{with_bit, without_bit}
 use Rattle.table_laws.proofs.Zeros.{pad-none}
 use Rattle.table_laws.specs.Octets.{waiting_from, control_octets}
@@ -20,7 +20,6 @@ use Rattle.table_laws.proofs.Slots.{empty-fine}
 use Rattle.table_laws.specs.Ready.{Ready}
 use Rattle.table_laws.proofs.Stores.{stored-octets, begun-octets, sent-octets, freed-octets, bit-stays}
 use Rattle.table_places.specs.Storing.{Storing, with_waiting}
-use Rattle.table_places.proofs.Laws.{lent, lent-place}
 
 module _ (t : List ℕ) (p : ℕ) (c : Control) (s : Storing 0 t p c) where
   pub control-stored : (n : ℕ) → n ≡ length (place_at (view t) p).waiting
@@ -61,14 +60,13 @@ module _ (t : List ℕ) (p : ℕ) (c : Control) (s : Storing 1 t p c) where
 pub blanked : (n : ℕ) → set (set (set (replicate place_size 0) 0 (n / 65536 % 256)) 1 (n / 256 % 256)) 2 (n % 256) ≡ place_octets (empty_place n)
 blanked n = ap (λ (l : List ℕ). n / 65536 % 256 ∷ n / 256 % 256 ∷ n % 256 ∷ (replicate (waiting_start - 3) 0 ++ l)) (sym (pad-none most_waiting))
 
-module _ (t last : List ℕ) (p : ℕ) (r : Ready t) (h : p < places_in_all) (e : last ≡ place_octets (freed (place_by (lent t p)))) where
+module _ (t last : List ℕ) (p : ℕ) (r : Ready t) (h : p < places_in_all) (e : last ≡ place_octets (freed (place_at (view t) p))) where
   pub lent-freed : put_mid (place_start p) (place_start p + place_size - (place_start p)) t last ≡ over (encode (view t)) (place_start p) (place_octets (freed (place_at (view t) p)))
   lent-freed =
       let x : Place = freed (place_at (view t) p) in
       let n : place_start p + place_size - (place_start p) ≡ place_size = omega arith in
-      let q : last ≡ place_octets x = e ∙ ap (λ (y : Place). place_octets (freed y)) (lent-place t p h) in
       let l : length (place_octets x) ≡ place_size = place_octets-length x (empty-fine (next_turn (place_at (view t) p).control.turn) (omega arith)).control in
-      ap (put_mid (place_start p) (place_start p + place_size - (place_start p)) t) q
+      ap (put_mid (place_start p) (place_start p + place_size - (place_start p)) t) e
       ∙ put-over (place_start p) (place_start p + place_size - (place_start p)) t (place_octets x) (l ∙ sym n)
       ∙ ap (λ (u : List ℕ). over u (place_start p) (place_octets x)) (sym r.same)
 

@@ -3,8 +3,8 @@
 
 ghost use Rattle.std.specs.Prelude.{◌≡◌, [], ◌≤◌, ◌<◌, length};
 ghost use Rattle.laws.specs.Parts.{over};
-ghost use Rattle.paper.specs.Sizes.{places_in_all, most_rejects, most_waiting, turns, local_id, next_turn};
-ghost use Rattle.paper.specs.Dialogues.{with_control, freed, begun};
+ghost use Rattle.paper.specs.Sizes.{places_in_all, most_rejects, most_waiting, turns, three, local_id, next_turn};
+ghost use Rattle.paper.specs.Dialogues.{with_control, empty_place, freed, begun};
 ghost use Rattle.paper.specs.Calls.{place_at, with_place, is_dialogue, owns, lowest_free};
 ghost use Rattle.paper.specs.Layout.{place_start, place_octets, place_size, table_size, place_by, flag, encode, view};
 ghost use Rattle.table_laws.specs.Fine.{FineRejects, FineControl};
@@ -14,9 +14,19 @@ ghost use Rattle.table_places.specs.Storing.{Storing, with_waiting};
 ghost use Rattle.table_places.specs.Made.{head_octets, made_invocation, invocation_pairs, made_reject, reject_pairs};
 
 use paper::{
-    Control, DIALOGUE_FREE, FIRST_WAITING, INVOCATIONS, Invocation, MOST_INVOCATIONS, MOST_WAITING,
-    PLACE_OCTETS, PLACES, PLACES_IN_ALL, REJECTS, Reject, TURN, TURNS,
+    Control, DIALOGUE_FREE, FIRST_WAITING, INVOCATIONS, Invocation, MOST_INVOCATIONS, MOST_REJECTS,
+    MOST_WAITING, PLACE_OCTETS, PLACES, PLACES_IN_ALL, REJECTS, Reject, TURN, TURNS,
 };
+
+// What stands where no invocation and no reject is.
+const NO_INVOCATION: Invocation = Invocation {
+    id: 0,
+    class: 0,
+    state: 0,
+    shown: 0,
+};
+
+const NO_REJECT: Reject = Reject { id: 0, problem: 0 };
 
 // ---- LOADED
 // The control record of place p.
@@ -56,7 +66,7 @@ pub fn waiting_length(t: &[u8], p: usize) -> usize
     requires { Ready t.now × (p < places_in_all) }
     ensures { (result ≡ length (place_at (view t.now) p).waiting) × (result ≤ most_waiting) }
 {
-    laws::wide(table_fields::waiting_length(table_fields::slot(t, p)))
+    usize::from(table_fields::waiting_length(table_fields::slot(t, p)))
 }
 
 // The octets that wait at place p: that run of the table itself.
@@ -64,24 +74,18 @@ pub fn waiting(t: &[u8], p: usize) -> &[u8]
     requires { Ready t.now × (p < places_in_all) }
     ensures { result.now ≡ (place_at (view t.now) p).waiting }
 {
-    let n = waiting_length(t, p);
     let a = FIRST_WAITING + p * PLACE_OCTETS;
-    let e = a + n;
-    &t[a..e]
+    let n = waiting_length(t, p);
+    &t[a..a + n]
 }
 
 // ---- FOUND: "no such dialogue, or another service's" (answer 5)
-fn is_dialogue(rec: &[u8], service: u32, turn: u32) -> bool
-    requires { length rec.now ≡ place_size }
+fn is_dialogue(rec: &[u8; PLACE_OCTETS], service: u32, turn: u32) -> bool
     ensures { result ≡ is_dialogue (place_by rec.now) service turn }
 {
-    if table_fields::state(rec) == DIALOGUE_FREE {
-        return false;
-    }
-    if laws::number(table_fields::service(rec)) != service {
-        return false;
-    }
-    return table_fields::turn(rec) == turn;
+    table_fields::state(rec) != DIALOGUE_FREE
+        && u32::from(table_fields::service(rec)) == service
+        && table_fields::turn(rec) == turn
 }
 
 // Whether a local ID is that of a dialogue of the service.
@@ -90,34 +94,22 @@ pub fn owner(t: &[u8], service: u32, dialogue: u32) -> bool
     ensures { result ≡ owns (view t.now) service dialogue }
 {
     let p = (dialogue / TURNS) as usize;
-    if p >= PLACES_IN_ALL {
-        return false;
-    }
-    return is_dialogue(table_fields::slot(t, p), service, dialogue % TURNS);
+    p < PLACES_IN_ALL && is_dialogue(table_fields::slot(t, p), service, dialogue % TURNS)
 }
 
 // The control record of a dialogue that is begun in a free place.
 pub fn begun(turn: u32, state: u8, service: u8, peerlen: u8, peer: [u8; 4]) -> Control
     ensures { result ≡ begun turn state service peerlen peer }
 {
-    let v = Invocation {
-        id: 0,
-        class: 0,
-        state: 0,
-        shown: 0,
-    };
-    let w = Reject { id: 0, problem: 0 };
-    let invocations: [Invocation; 8] = [v; 8];
-    let rejects: [Reject; 8] = [w; 8];
     Control {
-        turn: turn,
-        state: state,
-        service: service,
-        peerlen: peerlen,
-        peer: peer,
+        turn,
+        state,
+        service,
+        peerlen,
+        peer,
         count: 0,
-        invocations: invocations,
-        rejects: rejects,
+        invocations: [NO_INVOCATION; MOST_INVOCATIONS],
+        rejects: [NO_REJECT; MOST_REJECTS],
     }
 }
 
@@ -130,25 +122,22 @@ pub fn lowest_place(t: &[u8]) -> usize
 }
 
 // ---- STORED
+// "its turn in three, high first"
+fn turn_octets(turn: u32) -> [u8; 3]
+    ensures { result ≡ three turn [] }
+{
+    let [_, high, middle, low] = turn.to_be_bytes();
+    [high, middle, low]
+}
+
 // The octets before the invocations; n octets wait.
 fn head_octets(c: Control, n: u8) -> [u8; 12]
     ensures { result ≡ head_octets c n }
 {
-    let turn = c.turn;
-    let peer = c.peer;
+    let [t0, t1, t2] = turn_octets(c.turn);
+    let [p0, p1, p2, p3] = c.peer;
     [
-        laws::low(turn / 65536),
-        laws::low(turn / 256),
-        laws::low(turn),
-        c.state,
-        c.service,
-        c.peerlen,
-        peer[0],
-        peer[1],
-        peer[2],
-        peer[3],
-        n,
-        c.count,
+        t0, t1, t2, c.state, c.service, c.peerlen, p0, p1, p2, p3, n, c.count,
     ]
 }
 
@@ -158,16 +147,13 @@ fn invocation_mark(v: Invocation) -> u8
     v.state % 8 + v.class % 8 * 8 + v.shown % 4 * 64
 }
 
-fn invocation_octets(l: [Invocation; 8]) -> [u8; 16]
+fn invocation_octets(l: [Invocation; MOST_INVOCATIONS]) -> [u8; 2 * MOST_INVOCATIONS]
     ensures { result ≡ invocation_pairs l }
 {
-    let mut o: [u8; 16] = [0; 16];
-    let mut i: usize = 0;
-    while i < MOST_INVOCATIONS {
-        let v = l[i];
+    let mut o = [0; 2 * MOST_INVOCATIONS];
+    for (i, v) in l.iter().enumerate() {
         o[2 * i] = v.id;
-        o[2 * i + 1] = invocation_mark(v);
-        i += 1;
+        o[2 * i + 1] = invocation_mark(*v);
     }
     o
 }
@@ -179,18 +165,14 @@ fn reject_mark(r: Reject) -> u8
 }
 
 // Those of the n that wait. The others are none (01, "octets and invocations not in use are zero"), and the octets of none are 0.
-fn reject_octets(l: [Reject; 8], n: u8) -> [u8; 16]
+fn reject_octets(l: [Reject; MOST_REJECTS], n: u8) -> [u8; 2 * MOST_REJECTS]
     requires { (n ≤ most_rejects) × FineRejects n l }
     ensures { result ≡ reject_pairs l }
 {
-    let mut o: [u8; 16] = [0; 16];
-    let end = laws::wide(n);
-    let mut i: usize = 0;
-    while i < end {
-        let v = l[i];
+    let mut o = [0; 2 * MOST_REJECTS];
+    for (i, v) in l[..usize::from(n)].iter().enumerate() {
         o[2 * i] = laws::low(v.id);
-        o[2 * i + 1] = reject_mark(v);
-        i += 1;
+        o[2 * i + 1] = reject_mark(*v);
     }
     o
 }
@@ -201,14 +183,9 @@ pub fn put_control(t: &mut [u8], p: usize, c: Control, n: u8)
     ensures { t.new ≡ over t.old (place_start p) (control_octets c n) }
 {
     let a = PLACES + p * PLACE_OCTETS;
-    let first = head_octets(c, n);
-    writing_octets::copy_at(t, a, &first);
-    let invocations = c.invocations;
-    let second = invocation_octets(invocations);
-    writing_octets::copy_at(t, a + INVOCATIONS, &second);
-    let rejects = c.rejects;
-    let third = reject_octets(rejects, c.count);
-    writing_octets::copy_at(t, a + REJECTS, &third);
+    writing_octets::copy_at(t, a, &head_octets(c, n));
+    writing_octets::copy_at(t, a + INVOCATIONS, &invocation_octets(c.invocations));
+    writing_octets::copy_at(t, a + REJECTS, &reject_octets(c.rejects, c.count));
 }
 
 // "A turn starts at 0 and the turn goes up by one, modulo 16,777,216, each time its place is freed."
@@ -220,15 +197,12 @@ fn next_turn(turn: u32) -> u32
 }
 
 // "a free place is all zero but its turn"
-fn blank(s: &mut [u8])
+fn blank(s: &mut [u8], turn: u32)
     requires { length s.old ≡ place_size }
-    ensures { s.new ≡ place_octets (freed (place_by s.old)) }
+    ensures { s.new ≡ place_octets (empty_place turn) }
 {
-    let turn = next_turn(table_fields::turn(s));
     writing_octets::clear(s);
-    s[TURN] = laws::low(turn / 65536);
-    s[TURN + 1] = laws::low(turn / 256);
-    s[TURN + 2] = laws::low(turn);
+    writing_octets::copy_at(s, TURN, &turn_octets(turn));
 }
 
 // ---- THE CHANGES OF A TABLE: what is left is the octet form of the record table with place p changed.
@@ -247,8 +221,7 @@ pub fn sent_at(t: &mut [u8], p: usize, c: Control)
     ensures { t.new ≡ encode (with_place (view t.old) p (with_waiting c [])) }
 {
     let a = FIRST_WAITING + p * PLACE_OCTETS;
-    let e = a + MOST_WAITING;
-    writing_octets::clear(&mut t[a..e]);
+    writing_octets::clear(&mut t[a..a + MOST_WAITING]);
     put_control(t, p, c, 0);
 }
 
@@ -267,7 +240,7 @@ pub fn free_at(t: &mut [u8], p: usize)
     ensures { t.new ≡ encode (with_place (view t.old) p (freed (place_at (view t.old) p))) }
 {
     let a = PLACES + p * PLACE_OCTETS;
-    let e = a + PLACE_OCTETS;
-    blank(&mut t[a..e]);
+    let turn = next_turn(turn_at(t, p));
+    blank(&mut t[a..a + PLACE_OCTETS], turn);
     table_map::set_bit(t, p);
 }

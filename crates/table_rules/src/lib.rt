@@ -42,16 +42,16 @@ const THIRD_WORD: usize = SERVICE + 2 * WORD;
 const AFTER_WORDS: usize = SERVICE + 3 * WORD;
 
 // Whether a place's octets are all 0 from k on.
-fn zeros_from(rec: &[u8], k: usize) -> bool
-    requires { (length rec.now ≡ place_size) × (k ≤ place_size) }
+fn zeros_from(rec: &[u8; PLACE_OCTETS], k: usize) -> bool
+    requires { k ≤ place_size }
     ensures { result ≡ zeros (drop k rec.now) }
 {
     rec[k..PLACE_OCTETS].iter().fold(0, |acc, x| acc | *x) == 0
 }
 
 // "a free place is all zero but its turn": its state is 0. Three words first, so that the rest is a run of whole vectors.
-fn free_kept(rec: &[u8]) -> bool
-    requires { (length rec.now ≡ place_size) × (get_or rec.now state_at 0 ≡ 0) }
+fn free_kept(rec: &[u8; PLACE_OCTETS]) -> bool
+    requires { get_or rec.now state_at 0 ≡ 0 }
     ensures { result ≡ zeros (drop state_at rec.now) }
 {
     table_map::word(rec, SERVICE) == 0
@@ -82,8 +82,8 @@ fn is_open(v: Invocation, wanted: u8) -> bool
 }
 
 // "invoke IDs within a dialogue differ": no invocation from the i-th on is open with that ID. From the n-th on none is open.
-fn unused_from(rec: &[u8], id: u8, i: usize, n: usize) -> bool
-    requires { (length rec.now ≡ place_size) × (i ≤ n) × IdleFrom n rec.now }
+fn unused_from(rec: &[u8; PLACE_OCTETS], id: u8, i: usize, n: usize) -> bool
+    requires { (i ≤ n) × IdleFrom n rec.now }
     ensures { result ≡ none_open id (invocations_from i rec.now) }
 {
     for k in i..n {
@@ -96,8 +96,8 @@ fn unused_from(rec: &[u8], id: u8, i: usize, n: usize) -> bool
 
 // The i-th invocation keeps the rules, and no later one has its ID.
 #[tactic(auto, unfolding(crate::specs::Kinds::invocation_at_kept, paper::specs::Rules::differs, crate::specs::Kinds::none_open, laws::specs::If::if_b, laws::specs::If::if_eq))]
-fn invocation_at_kept(rec: &[u8], i: usize, n: usize) -> bool
-    requires { (length rec.now ≡ place_size) × (i < n) × IdleFrom n rec.now }
+fn invocation_at_kept(rec: &[u8; PLACE_OCTETS], i: usize, n: usize) -> bool
+    requires { (i < n) × IdleFrom n rec.now }
     ensures { result ≡ invocation_at_kept rec.now i }
 {
     let a = INVOCATIONS + 2 * i;
@@ -107,8 +107,8 @@ fn invocation_at_kept(rec: &[u8], i: usize, n: usize) -> bool
 }
 
 // Each of the n first invocations; from the n-th on none is open.
-fn each_invocation_kept(rec: &[u8], n: usize) -> bool
-    requires { (length rec.now ≡ place_size) × IdleFrom n rec.now }
+fn each_invocation_kept(rec: &[u8; PLACE_OCTETS], n: usize) -> bool
+    requires { IdleFrom n rec.now }
     ensures { result ≡ invocations_kept (invocations_from 0 rec.now) }
 {
     for i in 0..n {
@@ -120,8 +120,7 @@ fn each_invocation_kept(rec: &[u8], n: usize) -> bool
 }
 
 // The eight invocations: two words show how many at the end are not open.
-fn invocations_kept(rec: &[u8]) -> bool
-    requires { length rec.now ≡ place_size }
+fn invocations_kept(rec: &[u8; PLACE_OCTETS]) -> bool
     ensures { result ≡ invocations_kept (invocations_from 0 rec.now) }
 {
     if table_map::word(rec, LAST_INVOCATIONS) != 0 {
@@ -147,8 +146,8 @@ fn reject_kept(id: u8, o: u8) -> bool
 }
 
 // The i-th reject, of which n wait.
-fn reject_at_kept(rec: &[u8], n: usize, i: usize) -> bool
-    requires { (length rec.now ≡ place_size) × (i < most_rejects) }
+fn reject_at_kept(rec: &[u8; PLACE_OCTETS], n: usize, i: usize) -> bool
+    requires { i < most_rejects }
     ensures { result ≡ reject_at_kept n i rec.now }
 {
     let a = REJECTS + 2 * i;
@@ -162,8 +161,7 @@ fn reject_at_kept(rec: &[u8], n: usize, i: usize) -> bool
 }
 
 // Each of the eight rejects, of which n wait.
-fn each_reject_kept(rec: &[u8], n: usize) -> bool
-    requires { length rec.now ≡ place_size }
+fn each_reject_kept(rec: &[u8; PLACE_OCTETS], n: usize) -> bool
     ensures { result ≡ rejects_kept n (rejects_from 0 rec.now) }
 {
     for i in 0..MOST_REJECTS {
@@ -175,8 +173,7 @@ fn each_reject_kept(rec: &[u8], n: usize) -> bool
 }
 
 // The eight rejects, of which n wait; where none does, two words say so.
-fn rejects_kept(rec: &[u8], n: usize) -> bool
-    requires { length rec.now ≡ place_size }
+fn rejects_kept(rec: &[u8; PLACE_OCTETS], n: usize) -> bool
     ensures { result ≡ rejects_kept n (rejects_from 0 rec.now) }
 {
     if n == 0 && table_map::word(rec, REJECTS) == 0 && table_map::word(rec, LAST_REJECTS) == 0 {
@@ -210,8 +207,7 @@ fn has_peer(state: u8) -> bool
 
 // "a peer ID has 1 to 4 octets in Received and Active and none in Open and Sent"
 #[tactic(auto, unfolding(paper::specs::Rules::peer_kept, laws::specs::If::if_eq, laws::specs::If::if_lt, laws::specs::If::if_b))]
-fn peer_kept(rec: &[u8]) -> bool
-    requires { length rec.now ≡ place_size }
+fn peer_kept(rec: &[u8; PLACE_OCTETS]) -> bool
     ensures { result ≡ peer_kept (control_by rec.now) }
 {
     let n = table_fields::peer_length(rec);
@@ -225,8 +221,7 @@ fn peer_kept(rec: &[u8]) -> bool
 
 // A dialogue's control record but its rejects: "states, services .. and lengths are in range".
 #[tactic(auto, unfolding(crate::specs::Kinds::head_kept, laws::specs::Lists::every, paper::specs::Layout::place_by, laws::specs::If::if_b))]
-fn head_kept(rec: &[u8]) -> bool
-    requires { length rec.now ≡ place_size }
+fn head_kept(rec: &[u8; PLACE_OCTETS]) -> bool
     ensures { result ≡ head_kept rec.now }
 {
     table_fields::state(rec) <= DIALOGUE_ACTIVE
@@ -259,8 +254,8 @@ fn waiting_kept(w: &[u8]) -> bool
 
 // What waits at a place with n waiting octets, and the zeros after it.
 #[tactic(auto, unfolding(crate::specs::Kinds::octets_kept, laws::specs::If::if_b))]
-fn octets_kept(rec: &[u8], n: usize) -> bool
-    requires { (length rec.now ≡ place_size) × (n ≤ most_waiting) }
+fn octets_kept(rec: &[u8; PLACE_OCTETS], n: usize) -> bool
+    requires { n ≤ most_waiting }
     ensures { result ≡ octets_kept n rec.now }
 {
     if n == 0 {
@@ -272,8 +267,7 @@ fn octets_kept(rec: &[u8], n: usize) -> bool
 
 // Its rejects and its waiting octets; where it has neither, one run of zeros.
 #[tactic(auto, unfolding(crate::specs::Kinds::tail_kept, laws::specs::If::if_b, laws::specs::If::if_lt))]
-fn tail_kept(rec: &[u8]) -> bool
-    requires { length rec.now ≡ place_size }
+fn tail_kept(rec: &[u8; PLACE_OCTETS]) -> bool
     ensures { result ≡ tail_kept rec.now }
 {
     let n = usize::from(table_fields::waiting_length(rec));
@@ -285,8 +279,7 @@ fn tail_kept(rec: &[u8]) -> bool
 }
 
 // A place with a dialogue, whose bit of the map is clear.
-fn used_kept(rec: &[u8]) -> bool
-    requires { length rec.now ≡ place_size }
+fn used_kept(rec: &[u8; PLACE_OCTETS]) -> bool
     ensures { result ≡ used_kept rec.now 0 }
 {
     head_kept(rec) && tail_kept(rec)

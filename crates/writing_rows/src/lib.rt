@@ -11,13 +11,11 @@ use paper::{Component, NO_ID, NO_PROBLEM, ROW_CANCEL, Row, Run};
 fn signed(octet: u32) -> u32
     ensures { result ≡ signed octet }
 {
-    if octet < 128 {
-        return octet + 128;
+    match octet {
+        0..=127 => octet + 128,
+        128..=255 => octet - 128,
+        _ => NO_ID,
     }
-    if octet < NO_ID {
-        return octet - 128;
-    }
-    NO_ID
 }
 
 // Where a component from at to x starts: 0 without a frame.
@@ -25,20 +23,15 @@ fn start_of(at: usize, x: usize) -> u32
     requires { at < 65536 }
     ensures { result ≡ start_of at x }
 {
-    if at < x {
-        return at as u32;
-    }
-    0
+    if at < x { at as u32 } else { 0 }
 }
 
+// How many octets a component has: 0 without a frame.
 fn extent_of(at: usize, x: usize) -> u32
     requires { x < 65536 }
     ensures { result ≡ extent_of at x }
 {
-    if at < x {
-        return (x - at) as u32;
-    }
-    0
+    x.saturating_sub(at) as u32
 }
 
 // The row of a component, of the kind and problem that acting on it gave.
@@ -46,18 +39,14 @@ pub fn component_row(c: Component, me: u32, at: usize, kind: u32, problem: u32) 
     requires { (at < 65536) × (c.stop < 65536) }
     ensures { result ≡ component_row me at kind problem c }
 {
-    let a = signed(c.id);
-    let b = signed(c.linked);
-    let s = start_of(at, c.stop);
-    let n = extent_of(at, c.stop);
     Row {
         kind,
         dialogue: me,
-        invoke: a,
-        linked: b,
+        invoke: signed(c.id),
+        linked: signed(c.linked),
         problem,
-        start: s,
-        length: n,
+        start: start_of(at, c.stop),
+        length: extent_of(at, c.stop),
         follow: 0,
     }
 }
@@ -83,11 +72,10 @@ pub fn dialogue_row(kind: u32, me: u32, cause: u32, portion: Run, follow: u32) -
 pub fn cancel_row(me: u32, id: u8) -> Row
     ensures { result ≡ cancel_row me id }
 {
-    let a = signed(id as u32);
     Row {
         kind: ROW_CANCEL,
         dialogue: me,
-        invoke: a,
+        invoke: signed(u32::from(id)),
         linked: NO_ID,
         problem: NO_PROBLEM,
         start: 0,
@@ -100,40 +88,16 @@ pub fn cancel_row(me: u32, id: u8) -> Row
 pub fn octets(r: Row) -> [u8; 32]
     ensures { result ≡ row_octets r }
 {
-    [
-        (r.kind % 256) as u8,
-        (r.kind / 256 % 256) as u8,
-        (r.kind / 65536 % 256) as u8,
-        (r.kind / 16777216 % 256) as u8,
-        (r.dialogue % 256) as u8,
-        (r.dialogue / 256 % 256) as u8,
-        (r.dialogue / 65536 % 256) as u8,
-        (r.dialogue / 16777216 % 256) as u8,
-        (r.invoke % 256) as u8,
-        (r.invoke / 256 % 256) as u8,
-        (r.invoke / 65536 % 256) as u8,
-        (r.invoke / 16777216 % 256) as u8,
-        (r.linked % 256) as u8,
-        (r.linked / 256 % 256) as u8,
-        (r.linked / 65536 % 256) as u8,
-        (r.linked / 16777216 % 256) as u8,
-        (r.problem % 256) as u8,
-        (r.problem / 256 % 256) as u8,
-        (r.problem / 65536 % 256) as u8,
-        (r.problem / 16777216 % 256) as u8,
-        (r.start % 256) as u8,
-        (r.start / 256 % 256) as u8,
-        (r.start / 65536 % 256) as u8,
-        (r.start / 16777216 % 256) as u8,
-        (r.length % 256) as u8,
-        (r.length / 256 % 256) as u8,
-        (r.length / 65536 % 256) as u8,
-        (r.length / 16777216 % 256) as u8,
-        (r.follow % 256) as u8,
-        (r.follow / 256 % 256) as u8,
-        (r.follow / 65536 % 256) as u8,
-        (r.follow / 16777216 % 256) as u8,
-    ]
+    let mut o = [0; 32];
+    o[0..4].copy_from_slice(&r.kind.to_le_bytes());
+    o[4..8].copy_from_slice(&r.dialogue.to_le_bytes());
+    o[8..12].copy_from_slice(&r.invoke.to_le_bytes());
+    o[12..16].copy_from_slice(&r.linked.to_le_bytes());
+    o[16..20].copy_from_slice(&r.problem.to_le_bytes());
+    o[20..24].copy_from_slice(&r.start.to_le_bytes());
+    o[24..28].copy_from_slice(&r.length.to_le_bytes());
+    o[28..32].copy_from_slice(&r.follow.to_le_bytes());
+    o
 }
 
 // Row k of a row space.
@@ -142,6 +106,5 @@ pub fn write_row(rows: &mut [u8], k: usize, r: Row)
     ensures is { rows.new ≡ sets rows.old (k * 32) (row_octets r) }
     ensures long { length rows.new ≡ length rows.old }
 {
-    let b = octets(r);
-    writing_octets::copy_at(rows, k * 32, &b);
+    writing_octets::copy_at(rows, k * 32, &octets(r));
 }

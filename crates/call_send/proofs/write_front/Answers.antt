@@ -1,6 +1,6 @@
 use native.Mathlib.Omega.{arith}
-use Prim.Native.Nat.{◌+◌}
-use lib.ListN.{length}
+use Prim.Native.Nat.{ℕ, ◌+◌, ◌≤◌}
+use lib.ListN.{length, take, length-take}
 use mathlib.Core.Path.{sym, ap}
 use Rattle.laws.specs.Runs.{wrote_as}
 use Rattle.writing_octets.specs.Heads.{front_head}
@@ -16,11 +16,15 @@ begin_front-requires c =
 
 pub continue_front-requires : goal.continue_front-requires
 continue_front-requires c =
-    (c.requires.0.peer.most, front-room (8 + c.args.c.peerlen) c.args.m (length c.args.out.now) (omega (arith, c.requires.0.peer.most)) c.requires.1 c.requires.2)
+    let n : ℕ = length (take c.from.result c.args.c.peer) in
+    let h : n ≤ 4 = omega (arith, length-take c.from.result c.args.c.peer, c.from.ensures, c.requires.0.peer.most) in
+    (h, front-room (8 + n) c.args.m (length c.args.out.now) (omega arith) c.requires.1 c.requires.2)
 
 pub end_front-requires : goal.end_front-requires
 end_front-requires c =
-    (c.requires.0.peer.most, front-room (2 + c.args.c.peerlen) c.args.m (length c.args.out.now) (omega (arith, c.requires.0.peer.most)) c.requires.1 c.requires.2)
+    let n : ℕ = length (take c.from.result c.args.c.peer) in
+    let h : n ≤ 4 = omega (arith, length-take c.from.result c.args.c.peer, c.from.ensures, c.requires.0.peer.most) in
+    (h, front-room (2 + n) c.args.m (length c.args.out.now) (omega arith) c.requires.1 c.requires.2)
 
 pub uni_front-requires : goal.uni_front-requires
 uni_front-requires c =
@@ -32,11 +36,11 @@ returns-in-ABegin c =
 
 pub returns-in-AContinue : goal.returns-in-AContinue
 returns-in-AContinue c =
-    wrote_as c.continue_front.ensures.is (ap (λ (k : Sending). front_head (tag_for k) (ids_for k c.args.dialogue c.args.c) c.args.m) (sym c.in-AContinue.is))
+    wrote_as (rw c.from.ensures at c.continue_front.ensures.is) (ap (λ (k : Sending). front_head (tag_for k) (ids_for k c.args.dialogue c.args.c) c.args.m) (sym c.in-AContinue.is))
 
 pub returns-in-AnEnd : goal.returns-in-AnEnd
 returns-in-AnEnd c =
-    wrote_as c.end_front.ensures.is (ap (λ (k : Sending). front_head (tag_for k) (ids_for k c.args.dialogue c.args.c) c.args.m) (sym c.in-AnEnd.is))
+    wrote_as (rw c.from.ensures at c.end_front.ensures.is) (ap (λ (k : Sending). front_head (tag_for k) (ids_for k c.args.dialogue c.args.c) c.args.m) (sym c.in-AnEnd.is))
 
 pub returns-in-AUnidirectional : goal.returns-in-AUnidirectional
 returns-in-AUnidirectional c =

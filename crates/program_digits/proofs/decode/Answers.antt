@@ -1,38 +1,32 @@
-use mathlib.Core.Path.{◌≡◌, refl, ap}
-use Prim.Native.Nat.{ℕ, ◌+◌, ◌*◌}
-use native.Mathlib.Omega.{arith}
-use lib.ListN.{get_or, length-set}
-use Rattle.program_digits.specs.Digits.{digit}
-use Rattle.program_digits.specs.Steps.{decode-digit, decode-next, decode-all}
+use Rattle.std.proofs.Common.{sym, ◌∙◌, refl, arith, ◌+◌, ◌*◌}
+use Rattle.program_digits.specs.Steps.{some_digit, decode-some, decode-next, decode-all}
 use Rattle.program_digits.proofs.decode.Goals as goal
 
-same : (a i : ℕ) → a + 2 * i + 1 ≡ a + (2 * i + 1)
-same a i = omega arith
+pub unwrap-high-requires : goal.unwrap-high-requires
+unwrap-high-requires c =
+    decode-some c.args.line.now c.args.start c.args.stop (omega arith) (omega arith) c.requires.2 c.loop-i.line c.loop-i.i c.loop-i.invariant (omega arith) _ (2 * c.loop-i.i) (omega arith) (omega arith) (omega arith) c.digit_of.ensures.value
 
-pub loop-i-init : goal.loop-i-init
-loop-i-init c =
-    (omega arith, (refl, refl))
+pub unwrap-low-requires : goal.unwrap-low-requires
+unwrap-low-requires c =
+    decode-some c.args.line.now c.args.start c.args.stop (omega arith) (omega arith) c.requires.2 c.loop-i.line c.loop-i.i c.loop-i.invariant (omega arith) (c.args.start + 2 * c.loop-i.i + 1) (2 * c.loop-i.i + 1) (omega arith) (omega arith) (omega arith) c.digit_of-in-loop-i.ensures.value
 
 pub overflow_mul-line : goal.overflow_mul-line
 overflow_mul-line c =
-    omega (arith, decode-digit c.args.line.now c.args.start c.args.stop (omega arith) (omega arith) c.requires.2 c.loop-i.line c.loop-i.i c.loop-i.invariant.1.0 (omega arith) (2 * c.loop-i.i) (omega arith) (omega arith), c.digit_of-high.ensures.0)
+    let d = some_digit _ c.unwrap-high.result (sym c.unwrap-high.ensures ∙ c.digit_of.ensures.value) in
+    omega arith
 
 pub overflow_add-line : goal.overflow_add-line
 overflow_add-line c =
-    omega (arith, decode-digit c.args.line.now c.args.start c.args.stop (omega arith) (omega arith) c.requires.2 c.loop-i.line c.loop-i.i c.loop-i.invariant.1.0 (omega arith) (2 * c.loop-i.i) (omega arith) (omega arith), c.digit_of-high.ensures.0, c.digit_of-low.ensures.0, ap (λ (k : ℕ). digit (get_or c.loop-i.line k 0)) (same c.args.start c.loop-i.i), decode-digit c.args.line.now c.args.start c.args.stop (omega arith) (omega arith) c.requires.2 c.loop-i.line c.loop-i.i c.loop-i.invariant.1.0 (omega arith) (2 * c.loop-i.i + 1) (omega arith) (omega arith))
-
-pub bounds-line-start-in-loop-i-2 : goal.bounds-line-start-in-loop-i-2
-bounds-line-start-in-loop-i-2 c =
-    omega (arith, c.loop-i.invariant.1.1)
+    let d = some_digit _ c.unwrap-high.result (sym c.unwrap-high.ensures ∙ c.digit_of.ensures.value) in
+    let e = some_digit _ c.unwrap-low.result (sym c.unwrap-low.ensures ∙ c.digit_of-in-loop-i.ensures.value) in
+    omega arith
 
 pub loop-i-preserved : goal.loop-i-preserved
 loop-i-preserved c =
-    (omega arith, (decode-next c.args.line.now c.args.start c.args.stop (omega arith) (omega arith) c.requires.2 c.loop-i.line c.loop-i.i c.loop-i.invariant.1.0 (omega arith) c.digit_of-high.result c.digit_of-low.result _ c.digit_of-high.ensures.0 c.digit_of-low.ensures.0 refl, simp length-set c.loop-i.invariant.1.1))
-
-pub shape_of-line : goal.shape_of-line
-shape_of-line c =
-    c.loop-i.invariant.1.1
+    let d = some_digit _ c.unwrap-high.result (sym c.unwrap-high.ensures ∙ c.digit_of.ensures.value) in
+    let e = some_digit _ c.unwrap-low.result (sym c.unwrap-low.ensures ∙ c.digit_of-in-loop-i.ensures.value) in
+    decode-next c.args.line.now c.args.start c.args.stop (omega arith) (omega arith) c.requires.2 c.loop-i.line c.loop-i.i c.loop-i.invariant (omega arith) _ _ _ d.0 e.0 refl
 
 pub returns : goal.returns
 returns c =
-    decode-all c.args.line.now c.args.start c.args.stop (omega arith) (omega arith) c.requires.2 c.loop-i.line c.loop-i.i (omega arith) c.loop-i.invariant.1.0
+    decode-all c.args.line.now c.args.start c.args.stop (omega arith) (omega arith) c.requires.2 c.loop-i.line c.loop-i.i (omega arith) c.loop-i.invariant

@@ -1,12 +1,9 @@
 use mathlib.Core.Path.{◌≡◌}
-use Prim.Native.Nat.{◌-◌, ◌/◌, ◌≤◌}
-use lib.ListN.{length, take, drop}
+use Prim.Native.Nat.{◌-◌}
+use lib.ListN.{take, drop}
 use lib.Seq.{sets}
 use Rattle.program_digits.specs.Digits.{octets}
 use Rattle.program_digits.proofs.decode.Given as goal
 
 abbrev pub invariant-loop-i : goal.invariant-loop-i
-invariant-loop-i l = (l.i ≤ (l.stop - l.start) / 2) × ((l.line ≡ sets l.initial.line l.start (take l.i (octets (take (l.stop - l.start) (drop l.start l.initial.line))))) × (length l.line ≡ length l.initial.line))
-
-abbrev pub decreases-loop-i : goal.decreases-loop-i
-decreases-loop-i l = (l.stop - l.start) / 2 - l.i
+invariant-loop-i l = l.line ≡ sets l.initial.line l.start (take l.i (octets (take (l.stop - l.start) (drop l.start l.initial.line))))

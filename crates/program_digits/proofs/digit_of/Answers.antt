@@ -1,38 +1,40 @@
+use native.Mathlib.Omega.{arith}
 use Rattle.laws.specs.Picks.{picks}
 use Rattle.program_digits.specs.Digits.{digit}
+use Rattle.program_digits.specs.Steps.{digit_some, digit_none}
 use Rattle.program_digits.proofs.digit_of.Goals as goal
 
-pub returns-then-x-lt48 : goal.returns-then-x-lt48
+pub returns-in-48-to-57-clause-value : goal.returns-in-48-to-57-clause-value
 unfolding digit
-returns-then-x-lt48 c =
-    search picks depth 8
+returns-in-48-to-57-clause-value c =
+    digit_some _ _ (search picks depth 8) (omega arith)
 
-pub returns-then-x-lt58 : goal.returns-then-x-lt58
+pub returns-in-65-to-70-clause-value : goal.returns-in-65-to-70-clause-value
 unfolding digit
-returns-then-x-lt58 c =
-    search picks depth 8
+returns-in-65-to-70-clause-value c =
+    digit_some _ _ (search picks depth 8) (omega arith)
 
-pub returns-then-x-lt65 : goal.returns-then-x-lt65
+pub returns-in-97-to-102-clause-value : goal.returns-in-97-to-102-clause-value
 unfolding digit
-returns-then-x-lt65 c =
-    search picks depth 8
+returns-in-97-to-102-clause-value c =
+    digit_some _ _ (search picks depth 8) (omega arith)
 
-pub returns-then-x-lt71 : goal.returns-then-x-lt71
+pub returns-in_default-clause-value : goal.returns-in_default-clause-value
 unfolding digit
-returns-then-x-lt71 c =
-    search picks depth 8
+returns-in_default-clause-value c =
+    digit_none _ (search picks depth 8)
 
-pub returns-then-x-lt97 : goal.returns-then-x-lt97
+pub returns-in_default-2-clause-value : goal.returns-in_default-2-clause-value
 unfolding digit
-returns-then-x-lt97 c =
-    search picks depth 8
+returns-in_default-2-clause-value c =
+    digit_none _ (search picks depth 8)
 
-pub returns-then-x-lt103 : goal.returns-then-x-lt103
+pub returns-in_default-3-clause-value : goal.returns-in_default-3-clause-value
 unfolding digit
-returns-then-x-lt103 c =
-    search picks depth 8
+returns-in_default-3-clause-value c =
+    digit_none _ (search picks depth 8)
 
-pub returns : goal.returns
+pub returns-in_default-4-clause-value : goal.returns-in_default-4-clause-value
 unfolding digit
-returns c =
-    search picks depth 8
+returns-in_default-4-clause-value c =
+    digit_none _ (search picks depth 8)

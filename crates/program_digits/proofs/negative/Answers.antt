@@ -2,17 +2,17 @@ use Rattle.laws.specs.Picks.{picks}
 use Rattle.program_digits.specs.Digits.{negative}
 use Rattle.program_digits.proofs.negative.Goals as goal
 
-pub returns-then-n-eq0 : goal.returns-then-n-eq0
+pub returns-in-1-to-128 : goal.returns-in-1-to-128
 unfolding negative
-returns-then-n-eq0 c =
+returns-in-1-to-128 c =
     search picks
 
-pub returns-then-n-gt128 : goal.returns-then-n-gt128
+pub returns-in_default : goal.returns-in_default
 unfolding negative
-returns-then-n-gt128 c =
+returns-in_default c =
     search picks
 
-pub returns : goal.returns
+pub returns-in-0 : goal.returns-in-0
 unfolding negative
-returns c =
+returns-in-0 c =
     search picks

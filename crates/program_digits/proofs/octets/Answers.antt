@@ -1,22 +1,23 @@
-use native.Mathlib.Omega.{arith}
+use Rattle.std.proofs.Common.{◌∙◌, sym, eqb-true, arith}
+use Rattle.std.proofs.lemmas.Bool.{eqb-false}
 use Rattle.program_text.specs.Said.{said-none}
 use Rattle.program_digits.specs.Digits.{hex}
 use Rattle.program_digits.specs.Steps.{hex-next, hex-all, hex-none}
 use Rattle.program_digits.proofs.octets.Goals as goal
 
-pub returns-then-s-eq0 : goal.returns-then-s-eq0
-returns-then-s-eq0 c =
-    hex-none c.args.s.now (omega arith) c.put.ensures
+pub returns-then-is_empty : goal.returns-then-is_empty
+returns-then-is_empty c =
+    hex-none c.args.s.now (eqb-true _ _ (sym c.is_empty.ensures ∙ c.if-is_empty.true)) c.put.ensures
 
-pub loop-i-init : goal.loop-i-init
+pub loop-x-init : goal.loop-x-init
 unfolding hex
-loop-i-init c =
-    (omega arith, said-none _ _ (omega arith))
+loop-x-init c =
+    said-none _ _ (omega arith)
 
-pub loop-i-preserved : goal.loop-i-preserved
-loop-i-preserved c =
-    (omega arith, hex-next c.args.s.now c.loop-i.i (omega arith) c.loop-i.invariant.1 c.octet-k.ensures)
+pub loop-x-preserved : goal.loop-x-preserved
+loop-x-preserved c =
+    hex-next c.args.s.now c.loop-x.x-index (omega arith) c.loop-x.invariant c.octet-k.ensures
 
 pub returns : goal.returns
 returns c =
-    hex-all c.args.s.now c.loop-i.i (λ z. omega arith) (omega arith) c.loop-i.invariant.1
+    hex-all c.args.s.now c.loop-x.x-index (eqb-false _ _ (sym c.is_empty.ensures ∙ c.if-is_empty.false)) (omega arith) c.loop-x.invariant

@@ -2,12 +2,12 @@ use Rattle.laws.specs.Picks.{picks}
 use Rattle.program_digits.specs.Digits.{positive}
 use Rattle.program_digits.proofs.positive.Goals as goal
 
-pub returns-then-n-gt127 : goal.returns-then-n-gt127
+pub returns-in-0-to-127 : goal.returns-in-0-to-127
 unfolding positive
-returns-then-n-gt127 c =
+returns-in-0-to-127 c =
     search picks
 
-pub returns : goal.returns
+pub returns-in_default : goal.returns-in_default
 unfolding positive
-returns c =
+returns-in_default c =
     search picks

@@ -1,23 +1,28 @@
-use mathlib.Core.Path.{◌∙◌, ap}
-use native.Mathlib.Omega.{arith}
-use Rattle.laws.specs.If.{eq, ne}
-use Rattle.program_digits.specs.Digits.{read_id, read_decimal, negative, positive}
-use Prim.Native.Nat.{◌-◌}
-use lib.ListN.{length, drop, length-drop}
-use lib.Seq.{take_all}
+use Rattle.std.proofs.Common.{arith, ◌∙◌, sym}
+use Rattle.laws.specs.Picks.{picks}
+use Rattle.program_digits.specs.Digits.{read_id, negative, positive}
+use Rattle.program_digits.specs.Steps.{id_minus, id_plain}
 use Rattle.program_digits.proofs.read_id.Goals as goal
 
-pub returns-then-s-eq0 : goal.returns-then-s-eq0
+pub returns-in-empty : goal.returns-in-empty
 unfolding read_id
-returns-then-s-eq0 c =
-    (eq _ _ _ _ (omega arith) (cc), omega arith)
+returns-in-empty c =
+    search picks
 
-pub returns-then-s-eq45 : goal.returns-then-s-eq45
-unfolding read_id
-returns-then-s-eq45 c =
-    (ne _ _ _ _ (λ z. omega arith) (eq _ _ _ _ (omega arith) (c.negative.ensures.0 ∙ ap negative (c.read_decimal.ensures ∙ ap read_decimal (take_all (length c.args.s.now - 1) (drop 1 c.args.s.now) (omega (arith, length-drop 1 c.args.s.now)))))), omega arith)
+pub returns-in_err-read_decimal-in-45 : goal.returns-in_err-read_decimal-in-45
+unfolding negative
+returns-in_err-read_decimal-in-45 c =
+    id_minus c.args.s.now (omega arith) (omega arith) (sym c.in_err-read_decimal-in-45.was ∙ c.read_decimal.ensures) c.from_residual.ensures
 
-pub returns : goal.returns
-unfolding read_id
-returns c =
-    (ne _ _ _ _ (λ z. omega arith) (ne _ _ _ _ (λ z. omega arith) (c.positive.ensures.0 ∙ ap positive c.read_decimal-2.ensures)), omega arith)
+pub returns-in_ok-read_decimal-in-45 : goal.returns-in_ok-read_decimal-in-45
+returns-in_ok-read_decimal-in-45 c =
+    id_minus c.args.s.now (omega arith) (omega arith) (sym c.in_ok-read_decimal-in-45.was ∙ c.read_decimal.ensures) c.negative.ensures
+
+pub returns-in_err-read_decimal-in-len1-up : goal.returns-in_err-read_decimal-in-len1-up
+unfolding positive
+returns-in_err-read_decimal-in-len1-up c =
+    id_plain c.args.s.now (omega arith) (λ z. omega arith) (sym c.in_err-read_decimal-in-len1-up.was ∙ c.read_decimal-in-len1-up.ensures) c.from_residual-in_err-read_decimal-in-len1-up.ensures
+
+pub returns-in_ok-read_decimal-in-len1-up : goal.returns-in_ok-read_decimal-in-len1-up
+returns-in_ok-read_decimal-in-len1-up c =
+    id_plain c.args.s.now (omega arith) (λ z. omega arith) (sym c.in_ok-read_decimal-in-len1-up.was ∙ c.read_decimal-in-len1-up.ensures) c.positive.ensures

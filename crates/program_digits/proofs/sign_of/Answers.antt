@@ -7,7 +7,7 @@ unfolding sign
 returns-then-d-lt10 c =
     search picks
 
-pub returns : goal.returns
+pub returns-else-d-lt10 : goal.returns-else-d-lt10
 unfolding sign
-returns c =
+returns-else-d-lt10 c =
     search picks

@@ -1,23 +1,16 @@
-use Rattle.std.proofs.Common.{arith}
-use Rattle.program_listing.proofs.Turns.{standing-first, standing-next, standing-over, standing-few, standing-fits}
+use Rattle.std.proofs.Common.{◌≡◌, ◌<◌, ℕ, get_or, subst, arith}
+use Rattle.reading_reader.specs.declared.Reader.{Reader}
+use Rattle.reading_reader.specs.Read.{at_start}
+use Rattle.program_listing.specs.Listed.{started, Stands, stands-first, stands-few, stands-piece}
 use Rattle.program_listing.proofs.components.Goals as goal
 
-pub loop-l-init : goal.loop-l-init
-loop-l-init g c = standing-first c.args.msg c.new-r.result (λ i. omega (arith, c.type_inv.msg i)) c.new-r.ensures
+pub loop-p-init : goal.loop-p-init
+loop-p-init g c =
+    let e : at_start c.args.msg ≡ c.into_iter-p-iterator.result = cc in
+    subst (λ (r : Reader). Stands c.args.msg.now r started) e (stands-first c.args.msg (λ i. omega (arith, c.type_inv.msg i)))
 
 pub taken-l-requires : goal.taken-l-requires
-taken-l-requires g c = (
-  standing-few c.args.msg.now c.loop-l.r c.loop-l.l (λ i. omega (arith, c.type_inv.msg i)) c.loop-l.invariant,
-  standing-fits c.args.msg.now c.loop-l.r c.loop-l.l c.next.result (λ i. omega (arith, c.type_inv.msg i)) c.loop-l.invariant c.next.ensures,
-)
-
-pub loop-l-smaller : goal.loop-l-smaller
-loop-l-smaller g c =
-    (standing-next c.args.msg.now c.loop-l.r c.moved-r.result c.loop-l.l c.taken-l.result c.next.result c.loop-l.invariant c.loop-l-test.true c.next.ensures c.taken-l.ensures c.moved-r.ensures).1
-
-pub loop-l-preserved : goal.loop-l-preserved
-loop-l-preserved g c =
-    (standing-next c.args.msg.now c.loop-l.r c.moved-r.result c.loop-l.l c.taken-l.result c.next.result c.loop-l.invariant c.loop-l-test.true c.next.ensures c.taken-l.ensures c.moved-r.ensures).0
-
-pub returns : goal.returns
-returns g c = standing-over c.args.msg.now c.loop-l.r c.loop-l.l c.loop-l.invariant c.loop-l-test.false
+taken-l-requires g c =
+    let octets : (i : ℕ) → get_or c.args.msg.now i 0 < 256 = λ i. omega (arith, c.type_inv.msg i) in
+    let w = stands-piece _ _ _ _ c.loop-p.invariant octets c.in-Some.p c.in-Some.ensures.steps in
+    (stands-few c.args.msg c.loop-p.p-iterator c.loop-p.l octets c.loop-p.invariant, omega (arith, w.starts, w.ends), omega (arith, w.ends), w.order)

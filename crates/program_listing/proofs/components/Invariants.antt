@@ -1,8 +1,5 @@
-use Rattle.program_listing.proofs.Turns.{Standing, left_of}
+use Rattle.program_listing.specs.Listed.{Stands}
 use Rattle.program_listing.proofs.components.Given as goal
 
-abbrev pub invariant-loop-l : goal.invariant-loop-l
-invariant-loop-l g l = Standing l.msg l.r l.l
-
-abbrev pub decreases-loop-l : goal.decreases-loop-l
-decreases-loop-l g l = left_of l.msg l.l
+abbrev pub invariant-loop-p : goal.invariant-loop-p
+invariant-loop-p g l = Stands l.fn.msg l.p-iterator l.l

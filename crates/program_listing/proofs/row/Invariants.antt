@@ -1,10 +1,6 @@
-use Prim.Native.Nat.{◌-◌, ◌≤◌}
 use Rattle.program_text.specs.Said.{Said}
 use Rattle.program_listing.specs.Rows.{numbers}
 use Rattle.program_listing.proofs.row.Given as goal
 
 abbrev pub invariant-loop-i : goal.invariant-loop-i
-invariant-loop-i l = (l.i ≤ 8) × Said l.initial.out l.at (numbers l.i l.place l.rows) l.k l.out
-
-abbrev pub decreases-loop-i : goal.decreases-loop-i
-decreases-loop-i l = 8 - l.i
+invariant-loop-i l = Said l.initial.out l.at (numbers l.i l.place l.rows) l.k l.out

@@ -1,20 +1,7 @@
-use mathlib.Core.Path.{refl}
-use native.Mathlib.Omega.{arith}
-use Rattle.laws.specs.If.{lt, ge}
-use Rattle.program_words.specs.Words.{cut_of}
+use Rattle.std.proofs.Common.{ap, ◌∙◌, refl, Bor, List, ℕ}
+use Rattle.program_words.specs.Steps.{cut_is}
 use Rattle.program_words.proofs.cut.Goals as goal
 
-pub returns-then-stop-line : goal.returns-then-stop-line
-unfolding cut_of
-returns-then-stop-line c =
-    lt _ _ _ _ (omega arith) refl
-
-pub returns-then-start-stop : goal.returns-then-start-stop
-unfolding cut_of
-returns-then-start-stop c =
-    ge _ _ _ _ (omega arith) (lt _ _ _ _ (omega arith) refl)
-
 pub returns : goal.returns
-unfolding cut_of
 returns c =
-    ge _ _ _ _ (omega arith) (ge _ _ _ _ (omega arith) refl)
+    ap (λ (b : Bor (List ℕ)). b.now) c.unwrap_or.ensures ∙ cut_is c.args.f c.args.line.now c.get.result _ c.get.ensures.lookup refl

@@ -1,20 +1,15 @@
-use mathlib.Core.Path.{◌∙◌, refl, sym}
-use native.Mathlib.Omega.{arith}
-use Rattle.program_words.specs.Steps.{sought-next, sought-here, sought-none}
+use Rattle.std.proofs.Common.{arith, rules, tests, ap, ◌∙◌, ℕ, List, length, ◌-◌, drop, length-drop, take_all, take, ◌≡◌, eqb}
+use Rattle.std.proofs.lemmas.Iterator.{YieldsList-from_slice}
+use Rattle.std.proofs.lemmas.Iterator.Search.{position_from_yields_List}
+use Rattle.program_words.specs.Words.{up_to}
+use Rattle.program_words.specs.Steps.{sought, up-to-short}
 use Rattle.program_words.proofs.end_of.Goals as goal
-
-pub loop-i-init : goal.loop-i-init
-loop-i-init c =
-    (omega arith, refl)
-
-pub returns-then-line-i : goal.returns-then-line-i
-returns-then-line-i c =
-    (sought-here c.args.separator c.args.line.now c.loop-i.i (omega arith) (omega arith) ∙ sym c.loop-i.invariant.1, omega arith)
-
-pub loop-i-preserved : goal.loop-i-preserved
-loop-i-preserved c =
-    (omega arith, c.loop-i.invariant.1 ∙ sought-next c.args.separator c.args.line.now c.loop-i.i (omega arith) (λ q. omega arith))
 
 pub returns : goal.returns
 returns c =
-    (sought-none c.args.separator c.args.line.now c.loop-i.i (omega arith) ∙ sym c.loop-i.invariant.1, omega arith)
+    let all : take (length c.args.line.now - c.args.from) (drop c.args.from c.args.line.now) ≡ drop c.args.from c.args.line.now = take_all _ _ (omega (arith, length-drop c.args.from c.args.line.now)) in
+    let found = sought c.args.separator (take (length c.args.line.now - c.args.from) (drop c.args.from c.args.line.now)) {o = c.position.result} {r = c.unwrap_or.result}
+    (position_from_yields_List (λ y. eqb y c.args.separator) _ _ c.position.result c.position.ensures.ran (YieldsList-from_slice _ c.iter.ensures.rest) (λ x b q k. search (rules, tests)))
+    c.unwrap_or.ensures in
+    let end : c.unwrap_or.result ≡ length (up_to c.args.separator (drop c.args.from c.args.line.now)) = found ∙ ap (λ (t : List ℕ). length (up_to c.args.separator t)) all in
+    (omega arith, omega (arith, up-to-short c.args.separator (drop c.args.from c.args.line.now), length-drop c.args.from c.args.line.now))

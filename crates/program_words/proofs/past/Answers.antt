@@ -1,12 +1,7 @@
-use mathlib.Core.Path.{refl}
-use native.Mathlib.Omega.{arith}
-use Rattle.program_words.specs.Steps.{past-at, past-none}
+use Rattle.std.proofs.Common.{arith}
+use Rattle.program_words.specs.Steps.{past_is}
 use Rattle.program_words.proofs.past.Goals as goal
-
-pub returns-then-e-line : goal.returns-then-e-line
-returns-then-e-line c =
-    (past-at c.args.separator c.args.line.now c.args.from c.end_of-e.result _ c.end_of-e.ensures.0 refl, omega arith)
 
 pub returns : goal.returns
 returns c =
-    (past-none c.args.separator c.args.line.now c.args.from c.end_of-e.result c.end_of-e.ensures.0 (omega arith), omega arith)
+    (past_is c.args.separator c.args.line.now c.args.from c.end_of.result _ c.end_of.ensures.0 c.min.ensures, omega arith)

@@ -1,9 +1,5 @@
-use Prim.Native.Nat.{ℕ, ◌+◌, ◌-◌}
-use mathlib.Core.Path.{◌≡◌, ap, ◌∙◌}
-use mathlib.Core.List.{List}
-use native.Mathlib.Omega.{arith}
-use lib.ListN.{length, take, drop, length-drop}
-use lib.Seq.{length-take-le}
+use Rattle.std.proofs.Common.{ℕ, ◌+◌, ◌-◌, drop, ◌∙◌, arith}
+use lib.Seq.{take-take}
 use Rattle.paper.specs.Layout.{place_size, place_start, slot}
 use Rattle.table_fields.proofs.slot.Goals as goal
 
@@ -11,7 +7,5 @@ pub returns : goal.returns
 unfolding slot
 returns c =
     let a : ℕ = place_start c.args.p in
-    let t : List ℕ = c.args.t.now in
-    let n : a + place_size - a ≡ place_size = omega arith in
-    let e : take (a + place_size - a) (drop a t) ≡ slot t c.args.p = ap (λ (k : ℕ). take k (drop a t)) n in
-    record { is = e; long = ap length e ∙ length-take-le place_size (drop a t) (simp length-drop (omega (arith, c.requires.0, c.requires.1))) }
+    let first = rw c.unwrap.ensures at c.first_chunk.ensures.cases in
+    record { is = first.same ∙ take-take place_size (a + place_size - a) (drop a c.args.t.now) (omega arith) }

@@ -7,5 +7,5 @@ use Rattle.table_map.proofs.free_count.Goals as goal
 pub returns : goal.returns
 returns c =
     let t : List ℕ = c.args.t.now in
-    let w = two-words t (λ i. omega (arith, c.shared_slice_known-1.given i)) (omega arith) in
+    let w = two-words t (λ i. omega (arith, c.type_inv.t i)) (omega arith) in
     ((cc w), omega (arith, c.count_of.ensures.1))

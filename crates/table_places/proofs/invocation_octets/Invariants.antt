@@ -1,12 +1,8 @@
-use mathlib.Core.Path.{◌≡◌}
-use Prim.Native.Nat.{◌-◌, ◌≤◌}
+use Rattle.std.proofs.Common.{◌≡◌}
 use Rattle.paper.specs.Invocations.{no_invocation}
 use Rattle.table_places.specs.Made.{made_invocation}
 use Rattle.table_places.proofs.Writing.{made}
 use Rattle.table_places.proofs.invocation_octets.Given as goal
 
 abbrev pub invariant-loop-i : goal.invariant-loop-i
-invariant-loop-i l = (l.i ≤ 8) × (l.o ≡ made (λ v. v.id) made_invocation no_invocation 8 l.l l.i)
-
-abbrev pub decreases-loop-i : goal.decreases-loop-i
-decreases-loop-i l = 8 - l.i
+invariant-loop-i l = l.o ≡ made (λ v. v.id) made_invocation no_invocation 8 l.fn.l l.i

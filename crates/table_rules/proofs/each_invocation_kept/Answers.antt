@@ -12,4 +12,4 @@ loop-i-preserved c =
     c.loop-i.invariant ∙ kept_step c.args.rec.now c.loop-i.i (omega arith) ∙ sym (yes _ _ _ (sym c.invocation_at_kept.ensures ∙ c.if-not-invocation_at_kept.false) refl)
 
 pub returns : goal.returns
-returns c = sym (c.loop-i.invariant ∙ kept-end c.args.rec.now c.args.n c.loop-i.i c.requires.1 (omega arith))
+returns c = sym (c.loop-i.invariant ∙ kept-end c.args.rec.now c.args.n c.loop-i.i c.requires (omega arith))

@@ -14,11 +14,11 @@ unfolding reject_at_kept
 returns-then-id-eq0 c =
     let id : ℕ = get_or c.args.rec.now (first_reject + 2 * c.args.i) 0 in
     let o : ℕ = get_or c.args.rec.now (first_reject + 2 * c.args.i + 1) 0 in
-    ge _ _ _ _ (omega arith) (zero_is id o (omega (arith, c.type_inv.rec (first_reject + 2 * c.args.i + 1))) c.if-id-eq0.true)
+    ge _ _ _ _ (omega arith) (zero_is id o (omega arith) c.if-id-eq0.true)
 
 pub returns-else-id-eq0 : goal.returns-else-id-eq0
 unfolding reject_at_kept
 returns-else-id-eq0 c =
     let id : ℕ = get_or c.args.rec.now (first_reject + 2 * c.args.i) 0 in
     let o : ℕ = get_or c.args.rec.now (first_reject + 2 * c.args.i + 1) 0 in
-    ne_eqb _ _ c.if-id-eq0.false ∙ ge _ _ _ _ (omega arith) (zero-not id o (omega (arith, c.type_inv.rec (first_reject + 2 * c.args.i + 1))) c.if-id-eq0.false)
+    ne_eqb _ _ c.if-id-eq0.false ∙ ge _ _ _ _ (omega arith) (zero-not id o (omega arith) c.if-id-eq0.false)

@@ -15,4 +15,4 @@ loop-k-preserved c =
     c.loop-k.invariant ∙ open_step c.args.rec.now c.loop-k.k (omega arith) c.args.id ∙ sym (no _ _ _ (v ∙ sym c.is_open.ensures ∙ c.if-is_open.false) refl)
 
 pub returns : goal.returns
-returns c = sym (c.loop-k.invariant ∙ open-end c.args.rec.now c.args.n c.loop-k.k c.requires.2 (omega arith) c.args.id)
+returns c = sym (c.loop-k.invariant ∙ open-end c.args.rec.now c.args.n c.loop-k.k c.requires.1 (omega arith) c.args.id)

@@ -1,13 +1,11 @@
+use Rattle.std.proofs.Common.{ℕ, ◌≡◌, ◌-◌, refl, sym, ◌∙◌, arith}
+use Rattle.laws.specs.If.{if_lt, by-lt}
 use Rattle.paper.specs.Rows.{extent_of}
-use Rattle.laws.specs.Picks.{picks}
 use Rattle.writing_rows.proofs.extent_of.Goals as goal
 
-pub returns-then-at-x : goal.returns-then-at-x
-unfolding extent_of
-returns-then-at-x c =
-    search picks
+gap : (at x : ℕ) → x - at ≡ if_lt at x (x - at) 0
+gap at x = by-lt {r = if_lt at x (x - at) 0} at x (x - at) 0 refl (λ h e. sym e) (λ h e. omega (arith, e))
 
 pub returns : goal.returns
 unfolding extent_of
-returns c =
-    search picks
+returns c = c.saturating_sub.ensures ∙ gap c.args.at c.args.x
