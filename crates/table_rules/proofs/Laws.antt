@@ -11,6 +11,7 @@ use lib.Dec.{eqb, ltb, eqb-suc-zero, eqb-suc-suc, eqb-zero-suc}
 use borrow.Author.Tests.{ne_eqb, eq-eqb, eqb-true, eqb-false, ltb-true, ltb-false}
 use lib.ListN.{length, get_or, take, drop, drop_of_length-le}
 use lib.Seq.{drop-cons}
+use Rattle.std.specs.List.{fold}
 use Rattle.laws.specs.If.{if_lt, if_eq, if_b, lt, ge, eq, ne, yes, no, was-eq, true-false}
 use Rattle.laws.specs.Lists.{zeros, first_at, every}
 use Rattle.laws.specs.Digits.{word_at}
@@ -56,6 +57,14 @@ if-last a r e = ap (λ (x : Bool). cond (eqb a 0) x false) e ∙ go (eqb a 0)
     go : (b : Bool) → cond b true false ≡ b
     go true = refl
     go false = refl
+
+pub or-run : (a : ℕ) (l : List ℕ) → eqb (fold bit_or a l) 0 ≡ if_eq a 0 (zeros l) false
+unfolding zeros
+or-run a [] = sym (if-last a true refl)
+or-run a (x ∷ l) = or-run (bit_or a x) l ∙ sym (or-if a x (zeros l))
+
+pub zeros-or : (l : List ℕ) → eqb (fold bit_or 0 l) 0 ≡ zeros l
+zeros-or l = or-run 0 l ∙ sym (if-first (zeros l))
 
 -- ---- eight octets of a run by their word
 word-zero : (s : List ℕ) (a : ℕ) → word_at s a ≡ 0 → (i : ℕ) → i < 8 → get_or s (a + i) 0 ≡ 0

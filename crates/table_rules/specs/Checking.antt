@@ -1,5 +1,6 @@
 -- WHAT THE CHECK TELLS: the answers 1 and 2, and what one pass counted. Assumes nothing.
-use Rattle.std.specs.Prelude.{◌≡◌, Bool, List, [], ◌∷◌, ℕ, zero, suc, ◌+◌, ◌*◌, ◌-◌, ◌/◌, ◌%◌, ◌<◌, ◌≤◌, eqb, length, take, drop, Result, Ok, Err, IfOk}
+use Rattle.std.specs.Prelude.{◌≡◌, Bool, List, [], ◌∷◌, ℕ, zero, suc, ◌+◌, ◌*◌, ◌-◌, ◌/◌, ◌%◌, ◌<◌, ◌≤◌, eqb, length, take, drop, Result, Ok, Err, IfOk, Option, Some}
+use Rattle.std.specs.Option.{is_some, IfSome}
 use Rattle.std.proofs.Math.Path.{refl, sym, ap}
 use Rattle.std.proofs.Common.{subst, ◌∙◌, arith, eqb-true, length-take-le}
 use Rattle.std.proofs.Math.Bool.{true, false}
@@ -32,9 +33,9 @@ use Rattle.table_rules.specs.Kinds.{seen_bit, slot_seen, seen-free, seen-used, s
 use Rattle.table_rules.specs.Tally.{tallies, tally-held}
 
 -- every place, and how many are of each kind
-pub record Scanned (t : List ℕ) (ok : Bool) (counts : List ℕ) : Type 0 where
-  pub is : ok ≡ all (slot_seen t) places_in_all
-  pub told : ok ≡ true → counts ≡ tallies t places_in_all
+pub record Scanned (t : List ℕ) (r : Option (List ℕ)) : Type 0 where
+  pub is : is_some r ≡ all (slot_seen t) places_in_all
+  pub told : IfSome r (λ counts. counts ≡ tallies t places_in_all)
 
 -- ---- the check
 unfoldable pub table_answer : List ℕ → ℕ
@@ -171,7 +172,7 @@ module _ (t : List ℕ) where
           unfolding table_answer shares_of_table
           check-shares w = eq _ _ _ _ e (no _ _ _ (kept w) refl)
 
-          pub check-fine : (rest : ℕ) → Parted (dialogues (view t)) true rest → CheckTold t (Ok (record { counts = counts; unused = rest; free = left }))
+          pub check-fine : (rest : ℕ) → Parted (dialogues (view t)) (Some rest) → CheckTold t (Ok (record { counts = counts; unused = rest; free = left }))
           unfolding table_answer shares_of_table
           check-fine rest p = record {
             is = eq _ _ _ _ e (yes _ _ _ (kept p.is) refl);
@@ -179,7 +180,7 @@ module _ (t : List ℕ) where
               ready = ready t o e (kept p.is);
               keeps = kept p.is;
               counted = check-counted counts c;
-              kept = p.told refl;
+              kept = p.told;
               remain = f ∙ walk-count t o e (check-map q);
               sound = kept-sound (dialogues (view t)) (few (sum (held (view t).places) services) (sum_by flag (view t).places) held_all).1 (sym p.is);
             };

@@ -1,39 +1,40 @@
-use Rattle.std.proofs.Common.{◌≡◌, ℕ, ◌/◌, ◌%◌, Some, eqb, sym, ap, ◌∙◌, arith, lt-ltb, ne_eqb}
+use Rattle.std.proofs.Common.{◌≡◌, ap, ◌∙◌, arith, ℕ, ◌/◌, ◌%◌, eqb, ne_eqb, lt-ltb, Some}
+use Rattle.paper.specs.Problems.{sender_of, by_layer}
 use Rattle.reading_problems.specs.Parties.{party_number}
-use Rattle.reading_problems.specs.declared.Party.{Party}
-use Rattle.reading_problems.specs.declared.Party.TheVariants.{SubLayer, User}
-use Rattle.paper.specs.Problems.{sender_of}
 use Rattle.table_rules.proofs.Laws.{reject-not, reject-named, reject-odd, reject-nameless}
 use Rattle.table_rules.proofs.reject_kept.Goals as goal
 
--- who sends it, of the octet
-by-party : (o k c : ℕ) (x y : Party) → x ≡ y → party_number (Some x) ≡ sender_of k c → k ≡ o / 8 % 16 → c ≡ o % 8 → party_number (Some y) ≡ sender_of (o / 8 % 16) (o % 8)
-by-party o k c x y i e p q = cc
-
-by-nobody : (o k c : ℕ) → 2 ≡ sender_of k c → k ≡ o / 8 % 16 → c ≡ o % 8 → 2 ≡ sender_of (o / 8 % 16) (o % 8)
-by-nobody o k c e p q = cc
-
 pub returns-then-o-lt128 : goal.returns-then-o-lt128
 returns-then-o-lt128 c =
-    let w = by-party c.args.o _ _ _ SubLayer c.in-Some-SubLayer.field-0-is c.in-Some-SubLayer.ensures c.number-kind.ensures.0 c.number-code.ensures.0 in
-    lt-ltb _ _ c.if-o-lt128.true ∙ reject-named c.args.id c.args.o (omega arith) (sym w) (omega arith) (omega arith)
+    let o : ℕ = c.args.o in
+    let p : party_number c.sender.result ≡ by_layer = ap party_number (c.in-Some-SubLayer.is ∙ ap Some c.in-Some-SubLayer.field-0-is) in
+    let w : sender_of (o / 8 % 16) (o % 8) ≡ by_layer = cc (p, c.sender.ensures, c.number-code.ensures.0, c.number-kind.ensures.0) in
+    lt-ltb o 128 c.if-o-lt128.true ∙ reject-named c.args.id o (omega arith) w (omega arith) c.if-o-lt128.true
 
 pub returns-then-id-eq0 : goal.returns-then-id-eq0
 returns-then-id-eq0 c =
-    let w = by-party c.args.o _ _ _ SubLayer c.in-Some-SubLayer.field-0-is c.in-Some-SubLayer.ensures c.number-kind.ensures.0 c.number-code.ensures.0 in
-    ap (λ (k : ℕ). eqb k 0) c.number-kind.ensures.0 ∙ reject-nameless c.args.id c.args.o (omega arith) (sym w) (omega arith) (omega arith) (omega arith)
+    let o : ℕ = c.args.o in
+    let p : party_number c.sender.result ≡ by_layer = ap party_number (c.in-Some-SubLayer.is ∙ ap Some c.in-Some-SubLayer.field-0-is) in
+    let w : sender_of (o / 8 % 16) (o % 8) ≡ by_layer = cc (p, c.sender.ensures, c.number-code.ensures.0, c.number-kind.ensures.0) in
+    ap (λ (k : ℕ). eqb k 0) c.number-kind.ensures.0 ∙ reject-nameless c.args.id o (omega arith) w (omega arith) c.if-o-lt128.false c.if-id-eq0.true
 
 pub returns-else-id-eq0 : goal.returns-else-id-eq0
 returns-else-id-eq0 c =
-    let w = by-party c.args.o _ _ _ SubLayer c.in-Some-SubLayer.field-0-is c.in-Some-SubLayer.ensures c.number-kind.ensures.0 c.number-code.ensures.0 in
-    ne_eqb _ _ c.if-id-eq0.false ∙ reject-odd c.args.id c.args.o (omega arith) (sym w) (omega arith) (omega arith) c.if-id-eq0.false
+    let o : ℕ = c.args.o in
+    let p : party_number c.sender.result ≡ by_layer = ap party_number (c.in-Some-SubLayer.is ∙ ap Some c.in-Some-SubLayer.field-0-is) in
+    let w : sender_of (o / 8 % 16) (o % 8) ≡ by_layer = cc (p, c.sender.ensures, c.number-code.ensures.0, c.number-kind.ensures.0) in
+    ne_eqb _ _ c.if-id-eq0.false ∙ reject-odd c.args.id o (omega arith) w (omega arith) c.if-o-lt128.false c.if-id-eq0.false
 
 pub returns-in-Some-User : goal.returns-in-Some-User
 returns-in-Some-User c =
-    let w = by-party c.args.o _ _ _ User c.in-Some-User.field-0-is c.in-Some-User.ensures c.number-kind.ensures.0 c.number-code.ensures.0 in
-    reject-not c.args.id c.args.o (omega arith) (λ q. let z : ◌≡◌ {A = ℕ} 1 0 = w ∙ q in absurd (omega arith))
+    let o : ℕ = c.args.o in
+    let p : party_number c.sender.result ≡ 1 = ap party_number (c.in-Some-User.is ∙ ap Some c.in-Some-User.field-0-is) in
+    let w : sender_of (o / 8 % 16) (o % 8) ≡ 1 = cc (p, c.sender.ensures, c.number-code.ensures.0, c.number-kind.ensures.0) in
+    reject-not c.args.id o (omega arith) (λ q. omega arith)
 
 pub returns-in-None : goal.returns-in-None
 returns-in-None c =
-    let w = by-nobody c.args.o _ _ c.in-None.ensures c.number-kind.ensures.0 c.number-code.ensures.0 in
-    reject-not c.args.id c.args.o (omega arith) (λ q. let z : ◌≡◌ {A = ℕ} 2 0 = w ∙ q in absurd (omega arith))
+    let o : ℕ = c.args.o in
+    let p : party_number c.sender.result ≡ 2 = ap party_number c.in-None.is in
+    let w : sender_of (o / 8 % 16) (o % 8) ≡ 2 = cc (p, c.sender.ensures, c.number-code.ensures.0, c.number-kind.ensures.0) in
+    reject-not c.args.id o (omega arith) (λ q. omega arith)

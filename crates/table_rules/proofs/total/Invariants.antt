@@ -1,12 +1,6 @@
+use Rattle.std.proofs.Common.{◌≡◌, ◌*◌, ◌≤◌, get_or}
 use Rattle.laws.specs.Sums.{sum}
-use Rattle.paper.specs.Sizes.{services}
-use lib.ListN.{get_or}
-use Prim.Native.Nat.{◌*◌, ◌-◌, ◌≤◌}
-use mathlib.Core.Path.{◌≡◌}
 use Rattle.table_rules.proofs.total.Given as goal
 
-abbrev pub invariant-loop-k : goal.invariant-loop-k
-invariant-loop-k l = (l.k ≤ services) × (l.n ≡ sum (λ i. get_or l.counts i 0) l.k) × (l.n ≤ l.k * 256)
-
-abbrev pub decreases-loop-k : goal.decreases-loop-k
-decreases-loop-k l = services - l.k
+abbrev pub invariant-loop-count : goal.invariant-loop-count
+invariant-loop-count l = (l.n ≡ sum (λ i. get_or l.count-items i 0) l.count-index) × (l.n ≤ l.count-index * 256)

@@ -1,30 +1,15 @@
-use Rattle.table_rules.proofs.Laws.{run_step, run_none, or-if, if-first, if-last}
+use Rattle.std.proofs.Common.{◌≡◌, ap, ◌∙◌, rules, bit_or, eqb, take, drop, take_all, length-drop, ◌-◌, ℕ, arith}
+use borrow.Author.Tests.{tests}
+use Rattle.std.proofs.lemmas.Iterator.{YieldsList-from_slice}
+use Rattle.std.proofs.lemmas.Iterator.Consumers.{fold_from_yields_List}
+use Rattle.std.specs.List.{fold}
 use Rattle.laws.specs.Lists.{zeros}
-use Rattle.laws.specs.If.{if_eq}
-use lib.ListN.{length, get_or, drop}
-use Prim.Native.Nat.{ℕ, ◌+◌, ◌≤◌}
-use mathlib.Core.Bool.{Bool, false}
-use mathlib.Core.List.{List}
-use mathlib.Core.Path.{sym, ap, ◌∙◌}
-use native.Mathlib.Omega.{arith}
-use borrow.Author.Rules.{rules}
+use Rattle.paper.specs.Layout.{place_size}
+use Rattle.table_rules.proofs.Laws.{zeros-or}
 use Rattle.table_rules.proofs.zeros_from.Goals as goal
-
-pub loop-i-init : goal.loop-i-init
-loop-i-init c =
-    (search rules, if-first (zeros (drop c.args.k c.args.rec.now)))
-
-pub loop-i-preserved : goal.loop-i-preserved
-loop-i-preserved c =
-    let s : List ℕ = c.args.rec.now in (
-      search rules,
-      c.loop-i.invariant.1
-          ∙ ap (λ (r : Bool). if_eq c.loop-i.acc 0 r false) (run_step s c.loop-i.i (omega arith))
-          ∙ or-if c.loop-i.acc (get_or s c.loop-i.i 0) (zeros (drop (c.loop-i.i + 1) s)),
-    )
 
 pub returns : goal.returns
 returns c =
-    let s : List ℕ = c.args.rec.now in
-    let e : length s ≤ c.loop-i.i = omega arith in
-    sym (c.loop-i.invariant.1 ∙ if-last c.loop-i.acc (zeros (drop c.loop-i.i s)) (run_none s c.loop-i.i e))
+    let e : c.fold.result ≡ fold bit_or 0 (take (place_size - c.args.k) (drop c.args.k c.args.rec.now)) =
+    fold_from_yields_List _ bit_or 0 c.fold.result c.fold.ensures.ran (YieldsList-from_slice (take (place_size - c.args.k) (drop c.args.k c.args.rec.now)) (cc)) (λ a x b q k. search (rules, tests)) in
+    ap (λ (n : ℕ). eqb n 0) e ∙ zeros-or (take (place_size - c.args.k) (drop c.args.k c.args.rec.now)) ∙ ap zeros (take_all (place_size - c.args.k) (drop c.args.k c.args.rec.now) (omega (arith, length-drop c.args.k c.args.rec.now)))
