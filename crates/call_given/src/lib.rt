@@ -5,13 +5,14 @@ ghost use Rattle.std.specs.Prelude.{◌≡◌, ◌+◌, ◌≤◌, length};
 ghost use Rattle.paper.specs.Sizes.{most_waiting};
 ghost use Rattle.paper.specs.Elements.{is_element};
 ghost use Rattle.paper.specs.Dialogues.{is_code, is_parameter, is_result, is_portion, is_name, is_block, is_information, unplaced};
-ghost use Rattle.paper.specs.Refusals.{answer_of};
+ghost use Rattle.paper.specs.declared.PduKind.TheVariants.{Abort};
+ghost use Rattle.paper.specs.Refusals.{answer_of, pdu_number};
 ghost use Rattle.paper.specs.Portions.{portion_by};
 ghost use Rattle.writing_portions.specs.Forms.{form_for};
 ghost use Rattle.call_given.specs.Pieces.{is_tagged, over_by, pieces_refusal, both_refusal};
 ghost use Rattle.call_given.specs.Portion.{malformed, refusal_of};
 
-use paper::{DIALOGUE_ACTIVE, MOST_WAITING, Refusal};
+use paper::{DIALOGUE_ACTIVE, MOST_WAITING, PduKind, Refusal};
 
 // One well-formed element, with so many depths to go.
 pub fn is_element(l: &[u8], left: usize) -> bool
@@ -163,9 +164,9 @@ fn malformed_by(name: &[u8], information: &[u8]) -> Result<(), Refusal>
 }
 
 // "The 240 octets .. count the portion too" (12), with any PDU but an ABRT.
-fn overfull_by(n: usize, kind: u8, name: &[u8], information: &[u8]) -> Result<(), Refusal>
-    requires { (n ≤ most_waiting) × (kind ≡ 4 → ⊥) }
-    ensures { answer_of result ≡ over_by n (length (portion_by (form_for kind) name.now information.now)) }
+fn overfull_by(n: usize, kind: PduKind, name: &[u8], information: &[u8]) -> Result<(), Refusal>
+    requires { (n ≤ most_waiting) × (kind ≡ Abort → ⊥) }
+    ensures { answer_of result ≡ over_by n (length (portion_by (form_for (pdu_number kind)) name.now information.now)) }
 {
     if name.len() > MOST_WAITING || information.len() > MOST_WAITING {
         return Err(Refusal::TooLong);
@@ -178,12 +179,12 @@ fn overfull_by(n: usize, kind: u8, name: &[u8], information: &[u8]) -> Result<()
 fn formed_refusal(
     n: usize,
     state: u8,
-    kind: u8,
+    kind: PduKind,
     name: &[u8],
     information: &[u8],
 ) -> Result<(), Refusal>
-    requires { (n ≤ most_waiting) × (kind ≡ 4 → ⊥) }
-    ensures { answer_of result ≡ refusal_of n state kind name.now information.now }
+    requires { (n ≤ most_waiting) × (kind ≡ Abort → ⊥) }
+    ensures { answer_of result ≡ refusal_of n state (pdu_number kind) name.now information.now }
 {
     malformed_by(name, information)?;
     overfull_by(n, kind, name, information)?;
@@ -194,12 +195,12 @@ fn formed_refusal(
 pub fn portion_refusal(
     n: usize,
     state: u8,
-    kind: u8,
+    kind: PduKind,
     name: &[u8],
     information: &[u8],
 ) -> Result<(), Refusal>
-    requires { (n ≤ most_waiting) × (kind ≡ 4 → ⊥) }
-    ensures { answer_of result ≡ refusal_of n state kind name.now information.now }
+    requires { (n ≤ most_waiting) × (kind ≡ Abort → ⊥) }
+    ensures { answer_of result ≡ refusal_of n state (pdu_number kind) name.now information.now }
 {
     if name.is_empty() && information.is_empty() {
         return Ok(());

@@ -5,6 +5,7 @@ use mathlib.Core.List.{List, [], ◌++◌}
 use Rattle.laws.specs.Runs.{Wrote, wrote-more, wrote_as}
 use Rattle.paper.specs.declared.Control.{Control}
 use Rattle.paper.specs.Sizes.{most_waiting, least_space, id_octets}
+use Rattle.paper.specs.Refusals.{pdu_number}
 use Rattle.paper.specs.Messages.{abort_tag}
 use Rattle.paper.specs.Writing.{tlv, continue_octets, end_octets, user_abort_octets}
 use Rattle.paper.specs.Portions.{Form, aarq, aare, audt, portion_by}
@@ -81,7 +82,7 @@ module _ (x : Place) (kind : ℕ) (f : Form) (e : form_for kind ≡ f) (name inf
       ∙ ap (k (portion_by (form_for kind) name info)) (ap (rejects_fit x) (sym w.portion) ∙ sym w.sends.fit)
 
 module _ (d : ℕ) (x : Place) (name info : List ℕ) {q n : ℕ} {fits : Bool} where
-  pub sending-does : (k : Sending) (kind : ℕ) → kind ≡ portion_kind k → Follows x kind name info q fits n
+  pub sending-does : (k : Sending) (kind : ℕ) → kind ≡ pdu_number (portion_kind k) → Follows x kind name info q fits n
       → does d x (sending k name info) ≡ done (place_after k x fits) [] (message_for k d x (portion_by (form_for kind) name info) fits)
   unfolding does
   sending-does ABegin kind e w =

@@ -8,6 +8,9 @@ use native.Mathlib.Omega.{arith}
 use Rattle.laws.specs.If.{if_eq, if_b}
 use Rattle.laws.specs.Runs.{Wrote}
 use Rattle.paper.specs.declared.Control.{Control}
+use Rattle.paper.specs.declared.PduKind.{PduKind}
+use Rattle.paper.specs.declared.PduKind.TheVariants as PduKind
+use Rattle.paper.specs.Refusals.{pdu_number}
 use Rattle.paper.specs.Sizes.{id_octets}
 use Rattle.paper.specs.Messages.{begin_tag, continue_tag, end_tag, uni_tag}
 use Rattle.paper.specs.Portions.{Form}
@@ -93,11 +96,11 @@ sending AContinue name info = Continue name info
 sending AnEnd name info = End name info
 sending AUnidirectional name info = Unidirectional name info
 
-abbrev pub portion_kind : Sending → ℕ
-portion_kind ABegin = 2
-portion_kind AContinue = 3
-portion_kind AnEnd = 3
-portion_kind AUnidirectional = 5
+abbrev pub portion_kind : Sending → PduKind
+portion_kind ABegin = PduKind.Request
+portion_kind AContinue = PduKind.Response
+portion_kind AnEnd = PduKind.Response
+portion_kind AUnidirectional = PduKind.Unidirectional
 
 abbrev pub state_refusal : Sending → Place → ℕ
 state_refusal ABegin x = needs_open x
@@ -136,22 +139,22 @@ sending-spaces AnEnd name info = refl
 sending-spaces AUnidirectional name info = refl
 
 -- no message has an ABRT
-pub not-abrt : (k : Sending) {kind : ℕ} → kind ≡ portion_kind k → kind ≡ 4 → ⊥
-not-abrt ABegin e z = omega (arith, e, z)
-not-abrt AContinue e z = omega (arith, e, z)
-not-abrt AnEnd e z = omega (arith, e, z)
-not-abrt AUnidirectional e z = omega (arith, e, z)
+pub not-abrt : (k : Sending) {kind : PduKind} → kind ≡ portion_kind k → kind ≡ PduKind.Abort → ⊥
+not-abrt ABegin e z = omega (arith, ap pdu_number (sym e ∙ z))
+not-abrt AContinue e z = omega (arith, ap pdu_number (sym e ∙ z))
+not-abrt AnEnd e z = omega (arith, ap pdu_number (sym e ∙ z))
+not-abrt AUnidirectional e z = omega (arith, ap pdu_number (sym e ∙ z))
 
 -- the state's number, else the portion's
 module _ (x : Place) (name info : List ℕ) where
-  as-refusal : (k : Sending) → first (state_refusal k x) (portion_refusal x (form_for (portion_kind k)) name info) ≡ refusal x (sending k name info)
+  as-refusal : (k : Sending) → first (state_refusal k x) (portion_refusal x (form_for (pdu_number (portion_kind k))) name info) ≡ refusal x (sending k name info)
   unfolding refusal
   as-refusal ABegin = ap (λ (f : Form). first (needs_open x) (portion_refusal x f name info)) form-2
   as-refusal AContinue = ap (λ (f : Form). first (needs_peer x) (portion_refusal x f name info)) form-3
   as-refusal AnEnd = ap (λ (f : Form). first (needs_peer x) (portion_refusal x f name info)) form-3
   as-refusal AUnidirectional = ap (λ (f : Form). first (uni_refusal x) (portion_refusal x f name info)) form-5
 
-  pub sending-refusal : (k : Sending) (kind a r : ℕ) → kind ≡ portion_kind k → a ≡ state_refusal k x → r ≡ first a (portion_refusal x (form_for kind) name info)
+  pub sending-refusal : (k : Sending) (kind a r : ℕ) → kind ≡ pdu_number (portion_kind k) → a ≡ state_refusal k x → r ≡ first a (portion_refusal x (form_for kind) name info)
       → r ≡ refusal x (sending k name info)
   sending-refusal k kind a r e h g =
       g ∙ ap (λ (n : ℕ). first n (portion_refusal x (form_for kind) name info)) h

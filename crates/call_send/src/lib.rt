@@ -7,7 +7,8 @@ ghost use Rattle.paper.specs.Sizes.{most_waiting, least_space};
 ghost use Rattle.paper.specs.Portions.{portion_by};
 ghost use Rattle.paper.specs.Dialogues.{first, portion_refusal, sent_components, abort_portion};
 ghost use Rattle.paper.specs.Dialogues.Request.{Abort};
-ghost use Rattle.paper.specs.Refusals.{answer_of};
+ghost use Rattle.paper.specs.declared.PduKind.TheVariants as PduKind;
+ghost use Rattle.paper.specs.Refusals.{answer_of, pdu_number};
 ghost use Rattle.paper.specs.Calls.{place_at, with_place};
 ghost use Rattle.paper.specs.Calls.Call.{OnDialogue};
 ghost use Rattle.paper.specs.Layout.{encode, view};
@@ -23,8 +24,8 @@ ghost use Rattle.call_send.specs.Messages.{Follows, rest, rest_size};
 
 use call_entry::{Effect, Reply, Spaces};
 use paper::{
-    AARE, AARQ, AUDT, Control, DIALOGUE_ACTIVE, DIALOGUE_OPEN, DIALOGUE_RECEIVED, DIALOGUE_SENT,
-    Refusal,
+    Control, DIALOGUE_ACTIVE, DIALOGUE_OPEN, DIALOGUE_RECEIVED, DIALOGUE_SENT,
+    PduKind, Refusal,
 };
 
 // The four messages that carry components.
@@ -37,14 +38,14 @@ pub enum Sending {
 }
 
 // 02 a: the dialogue portion of each.
-fn portion_kind(k: Sending) -> u8
+fn portion_kind(k: Sending) -> PduKind
     ensures { result ≡ portion_kind k }
 {
     match k {
-        Sending::ABegin => AARQ,
-        Sending::AContinue => AARE,
-        Sending::AnEnd => AARE,
-        Sending::AUnidirectional => AUDT,
+        Sending::ABegin => PduKind::Request,
+        Sending::AContinue => PduKind::Response,
+        Sending::AnEnd => PduKind::Response,
+        Sending::AUnidirectional => PduKind::Unidirectional,
     }
 }
 
@@ -89,12 +90,12 @@ fn refusal_with(
     p: usize,
     c: Control,
     k: Sending,
-    kind: u8,
+    kind: PduKind,
     name: &[u8],
     information: &[u8],
 ) -> Result<(), Refusal>
-    requires { Holds t.now p c × (kind ≡ 4 → ⊥) }
-    ensures { answer_of result ≡ first (state_refusal k (place_at (view t.now) p)) (portion_refusal (place_at (view t.now) p) (form_for kind) name.now information.now) }
+    requires { Holds t.now p c × (kind ≡ PduKind.Abort → ⊥) }
+    ensures { answer_of result ≡ first (state_refusal k (place_at (view t.now) p)) (portion_refusal (place_at (view t.now) p) (form_for (pdu_number kind)) name.now information.now) }
 {
     state_refusal(t, p, c, k)?;
     let n = table_places::waiting_length(t, p);
@@ -109,9 +110,9 @@ struct Follow {
     length: usize,
 }
 
-fn what_follows(t: &[u8], p: usize, c: Control, kind: u8, name: &[u8], information: &[u8]) -> Follow
-    requires { Holds t.now p c × (kind ≡ 4 → ⊥) × (0 ≡ portion_refusal (place_at (view t.now) p) (form_for kind) name.now information.now) }
-    ensures { Follows (place_at (view t.now) p) kind name.now information.now result.portion result.fits result.length }
+fn what_follows(t: &[u8], p: usize, c: Control, kind: PduKind, name: &[u8], information: &[u8]) -> Follow
+    requires { Holds t.now p c × (kind ≡ PduKind.Abort → ⊥) × (0 ≡ portion_refusal (place_at (view t.now) p) (form_for (pdu_number kind)) name.now information.now) }
+    ensures { Follows (place_at (view t.now) p) (pdu_number kind) name.now information.now result.portion result.fits result.length }
 {
     let q = writing_portions::portion_size(kind, name.len(), information.len());
     let s = call_send_parts::sent_of(t, p, c, q);
@@ -136,13 +137,13 @@ fn rest_size(f: Follow) -> usize
 fn write_given(
     out: &mut [u8],
     at: usize,
-    kind: u8,
+    kind: PduKind,
     name: &[u8],
     information: &[u8],
     q: usize,
 ) -> usize
-    requires { (length name.now ≤ most_waiting) × (length information.now ≤ most_waiting) × (q ≡ length (portion_by (form_for kind) name.now information.now)) × Room out.old at q }
-    ensures { Wrote out.old at (portion_by (form_for kind) name.now information.now) result out.new }
+    requires { (length name.now ≤ most_waiting) × (length information.now ≤ most_waiting) × (q ≡ length (portion_by (form_for (pdu_number kind)) name.now information.now)) × Room out.old at q }
+    ensures { Wrote out.old at (portion_by (form_for (pdu_number kind)) name.now information.now) result out.new }
 {
     if q == 0 {
         return at;
@@ -157,13 +158,13 @@ fn write_rest(
     t: &[u8],
     p: usize,
     c: Control,
-    kind: u8,
+    kind: PduKind,
     name: &[u8],
     information: &[u8],
     f: Follow,
 ) -> usize
-    requires { Holds t.now p c × Follows (place_at (view t.now) p) kind name.now information.now f.portion f.fits f.length × (at + rest_size f.portion f.length ≤ length out.old) }
-    ensures { Wrote out.old at (rest (portion_by (form_for kind) name.now information.now) (sent_components (place_at (view t.now) p) f.fits)) result out.new }
+    requires { Holds t.now p c × Follows (place_at (view t.now) p) (pdu_number kind) name.now information.now f.portion f.fits f.length × (at + rest_size f.portion f.length ≤ length out.old) }
+    ensures { Wrote out.old at (rest (portion_by (form_for (pdu_number kind)) name.now information.now) (sent_components (place_at (view t.now) p) f.fits)) result out.new }
 {
     let a = write_given(out, at, kind, name, information, f.portion);
     let n = f.length;
@@ -191,14 +192,14 @@ fn write_message(
     p: usize,
     c: Control,
     k: Sending,
-    kind: u8,
+    kind: PduKind,
     dialogue: u32,
     name: &[u8],
     information: &[u8],
     f: Follow,
 ) -> usize
-    requires { Holds t.now p c × Follows (place_at (view t.now) p) kind name.now information.now f.portion f.fits f.length × (least_space ≤ length out.old) }
-    ensures is { Wrote out.old 0 (message_for k dialogue (place_at (view t.now) p) (portion_by (form_for kind) name.now information.now) f.fits) result out.new }
+    requires { Holds t.now p c × Follows (place_at (view t.now) p) (pdu_number kind) name.now information.now f.portion f.fits f.length × (least_space ≤ length out.old) }
+    ensures is { Wrote out.old 0 (message_for k dialogue (place_at (view t.now) p) (portion_by (form_for (pdu_number kind)) name.now information.now) f.fits) result out.new }
     ensures within { result ≤ least_space }
 {
     let m = rest_size(f);

@@ -16,7 +16,7 @@ ghost use Rattle.call_send_parts.specs.Refused.{class4, is_told};
 ghost use Rattle.call_send_parts.specs.Sent.{Holds, Sends, Sendable, control_after};
 
 use paper::{
-    ABRT, Component, Control, DIALOGUE_OPEN, INVOKE_TAG, MOST_REJECTS, MOST_WAITING, NO_FAULT,
+    Component, Control, DIALOGUE_OPEN, INVOKE_TAG, MOST_REJECTS, MOST_WAITING, NO_FAULT, PduKind,
     Refusal, Reject,
 };
 
@@ -183,7 +183,7 @@ pub fn abort_size(portion: &[u8]) -> usize
     ensures { result ≡ length (abort_portion portion.now) }
 {
     if is_told(portion) {
-        writing_portions::portion_size(ABRT, 0, portion.len())
+        writing_portions::portion_size(PduKind::Abort, 0, portion.len())
     } else {
         portion.len()
     }
@@ -195,7 +195,7 @@ pub fn write_aborted(out: &mut [u8], at: usize, portion: &[u8]) -> usize
     ensures { Wrote out.old at (abort_portion portion.now) result out.new }
 {
     if is_told(portion) {
-        writing_portions::write_portion(out, at, ABRT, &portion[..0], portion)
+        writing_portions::write_portion(out, at, PduKind::Abort, &portion[..0], portion)
     } else {
         writing_octets::copy_at(out, at, portion)
     }

@@ -6,6 +6,9 @@ use mathlib.Core.List.{List, [], ◌∷◌, ◌++◌, append_assoc, append-nil}
 use Prim.Native.Nat.{ℕ, ◌+◌, ◌≤◌}
 use Rattle.std.proofs.Math.ListN.{length-append}
 use Rattle.laws.specs.If.{if_lt, if_eq, eq, ne, by-eq}
+use Rattle.paper.specs.declared.PduKind.{PduKind}
+use Rattle.paper.specs.declared.PduKind.TheVariants as PduKind
+use Rattle.paper.specs.Refusals.{pdu_number}
 use Rattle.paper.specs.Writing.{length_octets, tlv}
 use Rattle.paper.specs.Portions.{Form, structured, unstructured, aarq, aare, abrt, audt, piece_octets, pieces_octets}
 use Rattle.writing_octets.specs.Heads.{element_head}
@@ -30,6 +33,13 @@ form-4 = refl
 pub form-5 : form_for 5 ≡ audt
 unfolding form_for if_eq
 form-5 = refl
+
+-- no ABRT by its name, none by its number
+pub not-four : (kind : PduKind) → (kind ≡ PduKind.Abort → ⊥) → pdu_number kind ≡ 4 → ⊥
+not-four PduKind.Request g h = omega arith
+not-four PduKind.Response g h = omega arith
+not-four PduKind.Abort g h = g refl
+not-four PduKind.Unidirectional g h = omega arith
 
 -- WHAT STANDS IN A PDU: the A1 with the name, where one is given and the PDU has one
 abbrev pub named : List ℕ → List ℕ

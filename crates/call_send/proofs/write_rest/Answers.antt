@@ -6,6 +6,7 @@ use Rattle.paper.specs.Layout.{view}
 use Rattle.writing_octets.specs.Lengths.{components-small}
 use Rattle.writing_portions.specs.Forms.{form_for}
 use Rattle.call_send.specs.Messages.{rest-wrote}
+use Rattle.paper.specs.Refusals.{pdu_number}
 use Rattle.call_send.proofs.write_rest.Goals as goal
 
 pub write_components-b-requires : goal.write_components-b-requires
@@ -15,5 +16,5 @@ write_components-b-requires c =
 pub returns : goal.returns
 returns c =
     let x : Place = place_at (view c.args.t.now) c.args.p in
-    rest-wrote c.args.f.length (portion_by (form_for c.args.kind) c.args.name.now c.args.information.now) (sent_components x c.args.f.fits) c.requires.1.sends.long
+    rest-wrote c.args.f.length (portion_by (form_for (pdu_number c.args.kind)) c.args.name.now c.args.information.now) (sent_components x c.args.f.fits) c.requires.1.sends.long
     c.write_given-a.ensures c.write_components-b.ensures c.write_sent.ensures

@@ -3,6 +3,7 @@ use native.Mathlib.Omega.{arith}
 use Rattle.laws.specs.Runs.{wrote_as, wrote-more}
 use Rattle.writing_octets.specs.Lengths.{element_size}
 use Rattle.writing_portions.specs.Forms.{form_for, around-small, around-size, around-head}
+use Rattle.paper.specs.Refusals.{pdu_number}
 use Rattle.writing_portions.proofs.write_around.Goals as goal
 
 pub write_head-a-requires : goal.write_head-a-requires
@@ -53,4 +54,4 @@ returns c =
     let external = c.element_size.ensures.is in
     let pdu = c.element_size-2.ensures.is in
     wrote_as (wrote-more a refl (wrote-more b refl (wrote-more d refl (wrote-more e refl g))))
-    (around-head c.args.n _ _ held external (form_for c.args.kind) c.identifier-object.ensures pdu c.tag_of.ensures)
+    (around-head c.args.n _ _ held external (form_for (pdu_number c.args.kind)) c.identifier-object.ensures pdu c.tag_of.ensures)
