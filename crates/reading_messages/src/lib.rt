@@ -1,4 +1,4 @@
-// A message read in order (01, "Coding" and "A received message"). indefinite: the outer length is 80, so 00 00 ends the message.
+// A message read in order (01, "Coding" and "A received message").
 #![tactic(auto)]
 
 ghost use Rattle.std.specs.Prelude.{◌≡◌, ◌+◌, ◌-◌, ◌<◌, ◌≤◌, length};
@@ -17,12 +17,57 @@ use paper::{
 // "a component .. is depth 1": the 6C around it is one more.
 const DEPTHS_OF_6C: usize = DEPTHS + 1;
 
-// The message so far: its type, and the IDs that are derivable.
+// The message so far: whether its outer length is 80, so that 00 00 ends it; its type, and the IDs that are derivable.
 #[derive(Clone, Copy)]
 struct Seen {
+    indefinite: bool,
     tag: u8,
     origin: Run,
     destination: Run,
+}
+
+impl Seen {
+    fn fault(self, cause: u8) -> Message
+        ensures { result ≡ fault_of (seen self) cause }
+    {
+        Message {
+            tag: self.tag,
+            fault: cause,
+            origin: self.origin,
+            destination: self.destination,
+            portion: Run::NONE,
+            from: 0,
+            to: 0,
+            cause: NO_PROBLEM,
+        }
+    }
+
+    fn sound(self, portion: Run, from: usize, to: usize, cause: u32) -> Message
+        ensures { result ≡ sound_of (seen self) portion from to cause }
+    {
+        Message {
+            tag: self.tag,
+            fault: IS_SOUND,
+            origin: self.origin,
+            destination: self.destination,
+            portion,
+            from,
+            to,
+            cause,
+        }
+    }
+
+    // The message m, if it ends at p.
+    #[tactic(auto, unfolding(laws::specs::If::if_b))]
+    fn closing(self, s: &[u8], p: usize, m: Message) -> Message
+        ensures { result ≡ closing s.now self.indefinite p (seen self) m }
+    {
+        if closes(s, self.indefinite, p) {
+            m
+        } else {
+            self.fault(2)
+        }
+    }
 }
 
 // An ID at a position, "a length 1 to 4 and that many octets inside the message".
@@ -82,47 +127,19 @@ fn destination_of(s: &[u8], t: u8, b: usize, origin: Run) -> Run
 }
 
 #[tactic(auto, unfolding(paper::specs::Messages::derived, laws::specs::If::if_lt, laws::specs::If::if_eq, laws::specs::If::if_b))]
-fn derived(s: &[u8], b: usize) -> Seen
+fn derived(s: &[u8], indefinite: bool, b: usize) -> Seen
     requires { 0 < length s.now }
     ensures is { seen result ≡ derived s.now b }
+    ensures form { result.indefinite ≡ indefinite }
     ensures within { (RunIn (length s.now) result.origin) × (RunIn (length s.now) result.destination) }
 {
     let tag = s[0];
     let origin = origin_of(s, tag, b);
     Seen {
+        indefinite,
         tag,
         origin,
         destination: destination_of(s, tag, b, origin),
-    }
-}
-
-fn fault_of(d: Seen, cause: u8) -> Message
-    ensures { result ≡ fault_of (seen d) cause }
-{
-    Message {
-        tag: d.tag,
-        fault: cause,
-        origin: d.origin,
-        destination: d.destination,
-        portion: Run::NONE,
-        from: 0,
-        to: 0,
-        cause: NO_PROBLEM,
-    }
-}
-
-fn sound_of(d: Seen, portion: Run, from: usize, to: usize, cause: u32) -> Message
-    ensures { result ≡ sound_of (seen d) portion from to cause }
-{
-    Message {
-        tag: d.tag,
-        fault: IS_SOUND,
-        origin: d.origin,
-        destination: d.destination,
-        portion,
-        from,
-        to,
-        cause,
     }
 }
 
@@ -139,17 +156,6 @@ fn closes(s: &[u8], indefinite: bool, p: usize) -> bool
     }
 }
 
-#[tactic(auto, unfolding(laws::specs::If::if_lt, laws::specs::If::if_eq, laws::specs::If::if_b))]
-fn closing(s: &[u8], indefinite: bool, p: usize, d: Seen, m: Message) -> Message
-    ensures { result ≡ closing s.now indefinite p (seen d) m }
-{
-    if closes(s, indefinite, p) {
-        m
-    } else {
-        fault_of(d, 2)
-    }
-}
-
 // The octet at a position inside the message, 0 past its end: no tag is 0.
 #[tactic(auto, unfolding(paper::specs::Messages::octet_at, laws::specs::If::if_lt, laws::specs::If::if_eq, laws::specs::If::if_b))]
 fn octet_at(s: &[u8], p: usize) -> u8
@@ -161,98 +167,98 @@ fn octet_at(s: &[u8], p: usize) -> u8
 
 // "end of 6C not found" is a fault.
 #[tactic(auto, unfolding(paper::specs::Messages::components_by, laws::specs::If::if_lt, laws::specs::If::if_eq, laws::specs::If::if_b))]
-fn components_by(s: &[u8], indefinite: bool, d: Seen, portion: Run, f: Frame) -> Message
-    ensures { result ≡ components_by s.now indefinite (seen d) portion f }
+fn components_by(s: &[u8], d: Seen, portion: Run, f: Frame) -> Message
+    ensures { result ≡ components_by s.now d.indefinite (seen d) portion f }
 {
     if f.stop == 0 {
-        return fault_of(d, 2);
+        return d.fault(2);
     }
-    let m = sound_of(d, portion, f.from, f.to, NO_PROBLEM);
-    closing(s, indefinite, f.stop, d, m)
+    let m = d.sound(portion, f.from, f.to, NO_PROBLEM);
+    d.closing(s, f.stop, m)
 }
 
 // "then 6C components, optional but in Unidirectional needed".
 #[tactic(auto, unfolding(paper::specs::Messages::components_part, laws::specs::If::if_lt, laws::specs::If::if_eq, laws::specs::If::if_b))]
-fn components_part(s: &[u8], indefinite: bool, d: Seen, portion: Run, p: usize) -> Message
-    ensures { result ≡ components_part s.now indefinite (seen d) portion p }
+fn components_part(s: &[u8], d: Seen, portion: Run, p: usize) -> Message
+    ensures { result ≡ components_part s.now d.indefinite (seen d) portion p }
 {
     if octet_at(s, p) == 0x6C {
         let f = reading_elements::frame_at(s, DEPTHS_OF_6C, s.len(), p);
-        return components_by(s, indefinite, d, portion, f);
+        return components_by(s, d, portion, f);
     }
     if d.tag == UNI_TAG {
-        return fault_of(d, 2);
+        return d.fault(2);
     }
-    let m = sound_of(d, portion, 0, 0, NO_PROBLEM);
-    closing(s, indefinite, p, d, m)
+    let m = d.sound(portion, 0, 0, NO_PROBLEM);
+    d.closing(s, p, m)
 }
 
 // "Abort has, after 49, nothing, 4A 01 with 0 to 4, or 6B."
 #[tactic(auto, unfolding(paper::specs::Messages::abort_part, laws::specs::If::if_lt, laws::specs::If::if_eq, laws::specs::If::if_b))]
-fn abort_part(s: &[u8], indefinite: bool, d: Seen, p: usize) -> Message
-    ensures { result ≡ abort_part s.now indefinite (seen d) p }
+fn abort_part(s: &[u8], d: Seen, p: usize) -> Message
+    ensures { result ≡ abort_part s.now d.indefinite (seen d) p }
 {
     if octet_at(s, p) != 0x4A {
-        let m = sound_of(d, Run::NONE, 0, 0, NO_PROBLEM);
-        return closing(s, indefinite, p, d, m);
+        let m = d.sound(Run::NONE, 0, 0, NO_PROBLEM);
+        return d.closing(s, p, m);
     }
     if octet_at(s, p + 1) != 1 || s.len() - p < 3 || s[p + 2] >= 5 {
-        return fault_of(d, 2);
+        return d.fault(2);
     }
-    let m = sound_of(d, Run::NONE, 0, 0, u32::from(s[p + 2]));
-    closing(s, indefinite, p + 3, d, m)
+    let m = d.sound(Run::NONE, 0, 0, u32::from(s[p + 2]));
+    d.closing(s, p + 3, m)
 }
 
 // After a dialogue portion from p to x: nothing more in an Abort.
 #[tactic(auto, unfolding(laws::specs::If::if_lt, laws::specs::If::if_eq, laws::specs::If::if_b))]
-fn after_portion(s: &[u8], indefinite: bool, d: Seen, p: usize, x: usize) -> Message
+fn after_portion(s: &[u8], d: Seen, p: usize, x: usize) -> Message
     requires { p ≤ x }
-    ensures { result ≡ after_portion s.now indefinite (seen d) p (Ok x) }
+    ensures { result ≡ after_portion s.now d.indefinite (seen d) p (Ok x) }
 {
     let portion = Run {
         start: p,
         length: x - p,
     };
     if d.tag == ABORT_TAG {
-        let m = sound_of(d, portion, 0, 0, NO_PROBLEM);
-        return closing(s, indefinite, x, d, m);
+        let m = d.sound(portion, 0, 0, NO_PROBLEM);
+        return d.closing(s, x, m);
     }
-    components_part(s, indefinite, d, portion, x)
+    components_part(s, d, portion, x)
 }
 
 // "then 6B dialogue portion, optional": one well-formed element.
 #[tactic(auto, unfolding(paper::specs::Messages::portion_part, laws::specs::If::if_lt, laws::specs::If::if_eq, laws::specs::If::if_b))]
-fn portion_part(s: &[u8], indefinite: bool, d: Seen, p: usize) -> Message
-    ensures { result ≡ portion_part s.now indefinite (seen d) p }
+fn portion_part(s: &[u8], d: Seen, p: usize) -> Message
+    ensures { result ≡ portion_part s.now d.indefinite (seen d) p }
 {
     if octet_at(s, p) == 0x6B {
         return match reading_elements::element(s, DEPTHS, s.len(), p) {
-            Ok(x) => after_portion(s, indefinite, d, p, x),
-            Err(_) => fault_of(d, 2),
+            Ok(x) => after_portion(s, d, p, x),
+            Err(_) => d.fault(2),
         };
     }
     if d.tag == ABORT_TAG {
-        abort_part(s, indefinite, d, p)
+        abort_part(s, d, p)
     } else {
-        components_part(s, indefinite, d, Run::NONE, p)
+        components_part(s, d, Run::NONE, p)
     }
 }
 
 // "In order: 48 originating ID (Begin, Continue), 49 destination ID (End, Continue, Abort), each 1 to 4 octets".
 #[tactic(auto, unfolding(paper::specs::Messages::in_order, laws::specs::If::if_lt, laws::specs::If::if_eq, laws::specs::If::if_b))]
-fn in_order(s: &[u8], indefinite: bool, b: usize, d: Seen) -> Message
+fn in_order(s: &[u8], b: usize, d: Seen) -> Message
     requires { (RunIn (length s.now) d.origin) × (RunIn (length s.now) d.destination) }
-    ensures { result ≡ in_order s.now indefinite b (seen d) }
+    ensures { result ≡ in_order s.now d.indefinite b (seen d) }
 {
     let id = match d.tag {
-        UNI_TAG => return portion_part(s, indefinite, d, b),
+        UNI_TAG => return portion_part(s, d, b),
         BEGIN_TAG => d.origin,
         _ => d.destination,
     };
     if id.length == 0 {
-        return fault_of(d, 2);
+        return d.fault(2);
     }
-    portion_part(s, indefinite, d, past(id, b))
+    portion_part(s, d, past(id, b))
 }
 
 #[tactic(auto, unfolding(paper::specs::Messages::known_type, laws::specs::If::if_lt, laws::specs::If::if_eq, laws::specs::If::if_b))]
@@ -267,7 +273,7 @@ fn dropped(s: &[u8]) -> Message
     requires { 0 < length s.now }
     ensures { result ≡ fault_of (derived s.now 0) is_dropped }
 {
-    fault_of(derived(s, 0), IS_DROPPED)
+    derived(s, false, 0).fault(IS_DROPPED)
 }
 
 // A definite one: "Octets after the outer element are a frame fault", as is an element that goes past the message.
@@ -276,14 +282,14 @@ fn by_given(s: &[u8], b: usize, n: usize) -> Message
     requires { 0 < length s.now }
     ensures { result ≡ by_length s.now (Given b n) }
 {
-    let d = derived(s, b);
+    let d = derived(s, false, b);
     if !known_type(d.tag) {
-        return fault_of(d, 0);
+        return d.fault(0);
     }
     if s.len() < b || s.len() - b != n {
-        return fault_of(d, 2);
+        return d.fault(2);
     }
-    in_order(s, false, b, d)
+    in_order(s, b, d)
 }
 
 #[tactic(auto, unfolding(paper::specs::Messages::by_length, laws::specs::If::if_lt, laws::specs::If::if_eq, laws::specs::If::if_b))]
@@ -294,11 +300,11 @@ fn by_until(s: &[u8], b: usize) -> Message
     if s[0] / 32 % 2 != 1 {
         return dropped(s);
     }
-    let d = derived(s, b);
+    let d = derived(s, true, b);
     if known_type(d.tag) {
-        in_order(s, true, b, d)
+        in_order(s, b, d)
     } else {
-        fault_of(d, 0)
+        d.fault(0)
     }
 }
 
