@@ -85,6 +85,13 @@ octets [] = []
 octets (x ∷ []) = []
 octets (x ∷ (y ∷ s)) = (digit x * 16 + digit y) ∷ octets s
 
+-- a text that is hex, with the octets in its place, from its start, and how many they are; else as it was
+unfoldable pub read_here : List ℕ → List ℕ
+read_here s = if_b (is_hex s) (sets s 0 (octets s)) s
+
+unfoldable pub octet_count : List ℕ → Option ℕ
+octet_count s = if_b (is_hex s) (Some (length s / 2)) None
+
 -- a line whose part from one place up to another is hex, with the octets in its place, from its start; else as it was
 unfoldable pub decoded : ℕ → ℕ → List ℕ → List ℕ
 decoded start stop line = if_b (is_hex (take (stop - start) (drop start line))) (sets line start (octets (take (stop - start) (drop start line)))) line

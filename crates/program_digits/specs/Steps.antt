@@ -4,13 +4,15 @@ use Rattle.std.specs.Prelude.{Option, Some, None, is_some, eqb, Bool, cond, ◌�
 use Rattle.std.proofs.Math.Bool.{true, false}
 use Rattle.std.proofs.lemmas.Bool.{eqb-false}
 use Rattle.std.proofs.Math.Path.{refl, sym, ap}
-use Rattle.std.proofs.Common.{◌∙◌, subst, pow-suc, le-mul_of_pos_right, add-one, arith, length-drop, drop-cons, take-suc, take_all, length-take-le, get_or-take, get_or-drop, lt-ltb, eqb-true}
+use Rattle.std.proofs.Common.{◌∙◌, subst, pow-suc, le-mul_of_pos_right, add-one, zero-add, append_assoc, drop-drop, arith, length-drop, drop-cons, take-suc, take_all, length-take-le, lt-ltb, eqb-true}
 use mathlib.Core.List.{List, [], ◌∷◌, ◌++◌}
 use Rattle.std.proofs.Math.ListN.{drop, drop_of_length-le}
-use Rattle.std.proofs.lemmas.List.Edits.{sets}
+use Rattle.std.proofs.lemmas.List.Edits.{sets, sets-eq}
+use Rattle.std.proofs.lemmas.List.{drop-append-le, take-append-drop}
+use borrow.Rule.Slice.PartMut.{put_mid, put_same}
 use Rattle.io.specs.Digits.{hex_digit_ascii, IsDigitCount, last_digits as spelled}
 use Rattle.laws.specs.If.{if_lt, if_eq, lt, ge, eq, ne, yes, no, by-lt, by-b}
-use Rattle.program_digits.specs.Digits.{sign, digit, hex_digit, digits, decimal, hex, or_none, below, valued, dialogue, largest, in_base, read_decimal, negative, positive, read_id, is_hex, octets}
+use Rattle.program_digits.specs.Digits.{sign, digit, hex_digit, digits, decimal, hex, or_none, below, valued, dialogue, largest, in_base, read_decimal, negative, positive, read_id, is_hex, octets, read_here, octet_count, decoded}
 use Rattle.std.specs.Bool.{then_some}
 use Rattle.std.specs.Int.{to_be_bytes}
 use mir.Syntax.{w32}
@@ -191,32 +193,47 @@ below_at b [] i e h = absurd (omega arith)
 below_at b (x ∷ s) zero e h = (below-first b x s e).0
 below_at b (x ∷ s) (suc i) e h = below_at b s i (below-first b x s e).1 (omega arith)
 
--- the octets of the part of l from a to e, of which m has i
-module _ (l : List ℕ) (a e : ℕ) (p : a ≤ e) (q : e ≤ length l) (h : is_hex (take (e - a) (drop a l)) ≡ true) where
-  part_length : length (take (e - a) (drop a l)) ≡ e - a
-  part_length = length-take-le (e - a) (drop a l) (omega (arith, length-drop a l))
+-- the octets of a text s, of which m has i in its own place
+module _ (s : List ℕ) (h : is_hex s ≡ true) where
+  module _ (m : List ℕ) (i : ℕ) (g : m ≡ sets s 0 (take i (octets s))) (f : i < length s / 2) where
+    still : (k : ℕ) → 2 * i ≤ k → get_or m k 0 ≡ get_or s k 0
+    still k z = ap (λ (t : List ℕ). get_or t k 0) g ∙ after s 0 (take i (octets s)) k (omega (arith, length-take-le i (octets s) (omega (arith, octets-length s))))
 
-  module _ (m : List ℕ) (i : ℕ) (g : m ≡ sets l a (take i (octets (take (e - a) (drop a l))))) (f : i < (e - a) / 2) where
-    still : (k : ℕ) → 2 * i ≤ k → k < e - a → get_or m (a + k) 0 ≡ get_or (take (e - a) (drop a l)) k 0
-    still k z w =
-        ap (λ (t : List ℕ). get_or t (a + k) 0) g
-        ∙ after l a (take i (octets (take (e - a) (drop a l)))) (a + k) (omega (arith, length-take-le i (octets (take (e - a) (drop a l))) (omega (arith, octets-length (take (e - a) (drop a l)), part_length))))
-        ∙ sym (get_or-drop a l k 0) ∙ sym (get_or-take (e - a) (drop a l) k 0 w)
+    pub decode-some : (k : ℕ) {r : Option ℕ} → 2 * i ≤ k → k < length s → r ≡ hex_digit (get_or m k 0) → is_some r ≡ true
+    decode-some k z w e = digit_found (get_or m k 0) (subst (λ (x : ℕ). digit x < 16) (sym (still k z)) (below_at 16 s k (hex-parts s h).1 w)) e
 
-    decode-digit : (k : ℕ) → 2 * i ≤ k → k < e - a → digit (get_or m (a + k) 0) < 16
-    decode-digit k z w = subst (λ (x : ℕ). digit x < 16) (sym (still k z w)) (below_at 16 (take (e - a) (drop a l)) k (hex-parts _ h).1 (omega (arith, part_length)))
-
-    pub decode-some : (j k : ℕ) {r : Option ℕ} → j ≡ a + k → 2 * i ≤ k → k < e - a → r ≡ hex_digit (get_or m j 0) → is_some r ≡ true
-    decode-some j k n z w g = digit_found (get_or m j 0) (subst (λ (x : ℕ). digit (get_or m x 0) < 16) (sym n) (decode-digit k z w)) g
-
-    pub decode-next : (x y v : ℕ) → x ≡ digit (get_or m (a + 2 * i) 0) → y ≡ digit (get_or m (a + 2 * i + 1) 0) → v ≡ x * 16 + y
-        → set m (a + i) v ≡ sets l a (take (i + 1) (octets (take (e - a) (drop a l))))
+    pub decode-next : (x y v : ℕ) → x ≡ digit (get_or m (2 * i) 0) → y ≡ digit (get_or m (2 * i + 1) 0) → v ≡ x * 16 + y → set m i v ≡ sets s 0 (take (i + 1) (octets s))
     decode-next x y v c d b =
-        let t = take (e - a) (drop a l) in
-        let j : a + 2 * i + 1 ≡ a + (2 * i + 1) = omega arith in
-        let u : v ≡ get_or (octets t) i 0 =
-        omega (arith, c, d, b, ap digit (still (2 * i) (omega arith) (omega arith)), ap digit (ap (λ (k : ℕ). get_or m k 0) j ∙ still (2 * i + 1) (omega arith) (omega arith)), octet-at t i (omega (arith, part_length))) in
-        ap (set m (a + i)) u ∙ copied_more l m a (octets t) i g (omega (arith, octets-length t, part_length))
+        let u : v ≡ get_or (octets s) i 0 = omega (arith, c, d, b, ap digit (still (2 * i) (omega arith)), ap digit (still (2 * i + 1) (omega arith)), octet-at s i (omega arith)) in
+        ap (set m i) u ∙ ap (λ (k : ℕ). set m k (get_or (octets s) i 0)) (sym (zero-add i)) ∙ copied_more s m 0 (octets s) i g (omega (arith, octets-length s))
 
-  pub decode-all : (m : List ℕ) (i : ℕ) → (e - a) / 2 ≤ i → m ≡ sets l a (take i (octets (take (e - a) (drop a l)))) → m ≡ sets l a (octets (take (e - a) (drop a l)))
-  decode-all m i f g = g ∙ ap (sets l a) (take_all i _ (omega (arith, octets-length (take (e - a) (drop a l)), part_length)))
+  pub decode-all : (m : List ℕ) (i : ℕ) → length s / 2 ≤ i → m ≡ sets s 0 (take i (octets s)) → m ≡ sets s 0 (octets s)
+  decode-all m i f g = g ∙ ap (sets s 0) (take_all i _ (omega (arith, octets-length s)))
+
+pub no_octets : (s : List ℕ) → None ≡ octet_count s → is_hex s ≡ false
+unfolding octet_count
+no_octets s e = by-b (is_hex s) _ _ e (λ t f. (cc)) (λ t f. t)
+
+pub some_octets : (s : List ℕ) (n : ℕ) → Some n ≡ octet_count s → (is_hex s ≡ true) × (n ≡ length s / 2)
+unfolding octet_count
+some_octets s n e = by-b (is_hex s) _ _ e (λ t f. let g : n ≡ length s / 2 = cc in (t, g)) (λ t f. (cc))
+
+-- ---- a part of a line, put back with values from its start
+part_sets : (l : List ℕ) (a k : ℕ) (vs : List ℕ) → a + k ≤ length l → length vs ≤ k → put_mid a k l (sets (take k (drop a l)) 0 vs) ≡ sets l a vs
+part_sets l a k vs h w =
+    let part : List ℕ = take k (drop a l) in
+    let size : length part ≡ k = length-take-le k (drop a l) (omega (arith, length-drop a l)) in
+    ap (λ (t : List ℕ). take a l ++ (t ++ drop k (drop a l))) (sets-eq vs part 0 (omega arith))
+    ∙ ap (λ (n : ℕ). take a l ++ (vs ++ drop n part ++ drop k (drop a l))) (zero-add (length vs))
+    ∙ ap (λ (t : List ℕ). take a l ++ t) (append_assoc vs (drop (length vs) part) (drop k (drop a l)))
+    ∙ ap (λ (t : List ℕ). take a l ++ (vs ++ t)) (sym (drop-append-le (length vs) part (drop k (drop a l)) (omega arith)))
+    ∙ ap (λ (t : List ℕ). take a l ++ (vs ++ drop (length vs) t)) (take-append-drop k (drop a l))
+    ∙ ap (λ (t : List ℕ). take a l ++ (vs ++ t)) (drop-drop (length vs) a l)
+    ∙ sym (append_assoc (take a l) vs (drop (a + length vs) l)) ∙ sym (sets-eq vs l a (omega arith))
+
+pub part-decoded : (l : List ℕ) (a e : ℕ) → a ≤ e → e ≤ length l → put_mid a (e - a) l (read_here (take (e - a) (drop a l))) ≡ decoded a e l
+unfolding read_here decoded
+part-decoded l a e p q = by-b {r = decoded a e l} (is_hex (take (e - a) (drop a l))) _ _ refl
+    (λ t f. ap (put_mid a (e - a) l) (sym (yes _ _ _ t refl))
+    ∙ part_sets l a (e - a) (octets (take (e - a) (drop a l))) (omega arith) (omega (arith, octets-length (take (e - a) (drop a l)), length-take-le (e - a) (drop a l) (omega (arith, length-drop a l)))) ∙ sym f)
+    (λ t f. ap (put_mid a (e - a) l) (sym (no _ _ _ t refl)) ∙ put_same a (e - a) l ∙ sym f)

@@ -1,10 +1,10 @@
 // Decimal and hex, printed and read: what is printed is read back, and what is read is printed again (specs/Back.antt).
 #![tactic(auto)]
 
-ghost use Rattle.std.specs.Prelude.{◌+◌, ◌*◌, ◌-◌, ◌<◌, ◌≤◌, min, ◌≡◌, true, List, [], ◌∷◌, length, take, drop, IfSome};
+ghost use Rattle.std.specs.Prelude.{◌+◌, ◌*◌, ◌<◌, ◌≤◌, min, ◌≡◌, true, List, [], ◌∷◌, length, IfSome};
 ghost use Rattle.std.proofs.lemmas.List.Edits.{sets};
 ghost use Rattle.program_text.specs.Said.{Said};
-ghost use Rattle.program_digits.specs.Digits.{sign, hex_digit, hex, or_none, in_base, read_decimal, read_dialogue, negative as digits_negative, positive as digits_positive, read_id, is_hex, decoded};
+ghost use Rattle.program_digits.specs.Digits.{sign, hex_digit, hex, or_none, in_base, read_decimal, read_dialogue, negative as digits_negative, positive as digits_positive, read_id, is_hex, read_here, octet_count};
 ghost use Rattle.program_digits.specs.Digits.{decimal as digits_decimal, dialogue as digits_dialogue, octets as digits_octets};
 
 use program_text::{put, word};
@@ -166,25 +166,24 @@ fn is_hex(s: &[u8]) -> bool
 }
 
 // Each octet in the place of the digits, from their start.
-fn decode(line: &mut [u8], start: usize, stop: usize)
-    requires { (start ≤ stop) × (stop ≤ length line.old) × (is_hex (take (stop - start) (drop start line.old)) ≡ true) }
-    ensures { line.new ≡ sets line.old start (digits_octets (take (stop - start) (drop start line.old))) }
+fn decode(s: &mut [u8])
+    requires { is_hex s.old ≡ true }
+    ensures { s.new ≡ sets s.old 0 (digits_octets s.old) }
 {
-    for i in 0..(stop - start) / 2 {
-        let high = digit_of(line[start + 2 * i]).unwrap();
-        let low = digit_of(line[start + 2 * i + 1]).unwrap();
-        line[start + i] = high * 16 + low;
+    for i in 0..s.len() / 2 {
+        let high = digit_of(s[2 * i]).unwrap();
+        let low = digit_of(s[2 * i + 1]).unwrap();
+        s[i] = high * 16 + low;
     }
 }
 
-// Octets in hex, read in their own place; a text that is none stays.
-pub fn read_octets(line: &mut [u8], start: usize, stop: usize) -> bool
-    requires { (start ≤ stop) × (stop ≤ length line.old) }
-    ensures { (result ≡ is_hex (take (stop - start) (drop start line.old))) × (line.new ≡ decoded start stop line.old) × (length line.new ≡ length line.old) }
+// Octets in hex, read in their own place, from its start: how many; none of a text that is none, which stays.
+pub fn read_octets(s: &mut [u8]) -> Option<usize>
+    ensures { (result ≡ octet_count s.old) × (s.new ≡ read_here s.old) }
 {
-    let hex = is_hex(&line[start..stop]);
-    if hex {
-        decode(line, start, stop);
+    if !is_hex(s) {
+        return None;
     }
-    hex
+    decode(s);
+    Some(s.len() / 2)
 }

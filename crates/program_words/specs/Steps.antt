@@ -11,10 +11,13 @@ use Rattle.std.specs.List.{position_or_len}
 use Rattle.std.specs.Slice.{IsGetRangeResult}
 use Rattle.std.specs.Cmp.Lexicographic.{pointwise}
 use denote.Ref.{Bor}
+use borrow.Rule.Slice.PartMut.{put_mid}
+use Rattle.program_digits.specs.Digits.{read_here}
+use Rattle.program_digits.specs.Steps.{part-decoded}
 use Rattle.laws.specs.If.{if_lt, if_eq, if_b, lt, ge, by-lt, by-eq, true-false}
 use Rattle.program_words.specs.declared.Field.{Field}
 use Rattle.program_words.specs.declared.Pair.{Pair}
-use Rattle.program_words.specs.Words.{up_to, past, after, word_of, field_of, count, same, cut_of, or_none, with_or_none, pair_of, Two}
+use Rattle.program_words.specs.Words.{up_to, past, after, word_of, field_of, count, same, cut_of, with_octets, or_none, with_or_none, pair_of, Two}
 
 module _ (x : ℕ) (s : List ℕ) where
   -- past it
@@ -116,6 +119,12 @@ cut_is f s None d p e = by-lt {A = ℕ} {r = if_lt (length s) f.stop 0 0} (lengt
     (λ m _. ge _ _ _ _ l (lt _ _ _ _ m e))
     (λ m _. let h : ◌≡◌ {A = Bool} false true = p.1 (m, l) in absurd (true-false (sym h))))
 cut_is f s (Some x) d p e = ge _ _ _ _ p.0.1 (ge _ _ _ _ p.0.0 p.0.2)
+
+-- the octets of a part of a line, in its place
+pub put_octets : (f : Field) (s : List ℕ) {t : List ℕ} → f.start ≤ f.stop → f.stop ≤ length s → t ≡ read_here (take (f.stop - f.start) (drop f.start s))
+    → put_mid f.start (f.stop - f.start) s t ≡ with_octets f s
+unfolding with_octets
+put_octets f s p q e = ap (put_mid f.start (f.stop - f.start) s) e ∙ ge _ _ _ _ q (ge _ _ _ _ p (part-decoded s f.start f.stop p q))
 
 -- ---- the same octets?
 pub same_is : (s t : List ℕ) → pointwise eqb s t ≡ same s t

@@ -74,12 +74,10 @@ pub fn octets(line: &mut [u8], f: Field) -> Option<Field>
     if f.stop > line.len() || f.start > f.stop {
         return None;
     }
-    if !program_digits::read_octets(line, f.start, f.stop) {
-        return None;
-    }
+    let n = program_digits::read_octets(&mut line[f.start..f.stop])?;
     Some(Field {
         start: f.start,
-        stop: f.start + (f.stop - f.start) / 2,
+        stop: f.start + n,
     })
 }
 

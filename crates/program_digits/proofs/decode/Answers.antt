@@ -4,19 +4,19 @@ use Rattle.program_digits.proofs.decode.Goals as goal
 
 pub unwrap-high-requires : goal.unwrap-high-requires
 unwrap-high-requires c =
-    decode-some c.args.line.now c.args.start c.args.stop (omega arith) (omega arith) c.requires.2 c.loop-i.line c.loop-i.i c.loop-i.invariant (omega arith) _ (2 * c.loop-i.i) (omega arith) (omega arith) (omega arith) c.digit_of.ensures.value
+    decode-some c.args.s.now c.requires c.loop-i.s c.loop-i.i c.loop-i.invariant (omega arith) (2 * c.loop-i.i) (omega arith) (omega arith) c.digit_of.ensures.value
 
 pub unwrap-low-requires : goal.unwrap-low-requires
 unwrap-low-requires c =
-    decode-some c.args.line.now c.args.start c.args.stop (omega arith) (omega arith) c.requires.2 c.loop-i.line c.loop-i.i c.loop-i.invariant (omega arith) (c.args.start + 2 * c.loop-i.i + 1) (2 * c.loop-i.i + 1) (omega arith) (omega arith) (omega arith) c.digit_of-in-loop-i.ensures.value
+    decode-some c.args.s.now c.requires c.loop-i.s c.loop-i.i c.loop-i.invariant (omega arith) (2 * c.loop-i.i + 1) (omega arith) (omega arith) c.digit_of-in-loop-i.ensures.value
 
-pub overflow_mul-line : goal.overflow_mul-line
-overflow_mul-line c =
+pub overflow_mul-s : goal.overflow_mul-s
+overflow_mul-s c =
     let d = some_digit _ c.unwrap-high.result (sym c.unwrap-high.ensures ∙ c.digit_of.ensures.value) in
     omega arith
 
-pub overflow_add-line : goal.overflow_add-line
-overflow_add-line c =
+pub overflow_add-s : goal.overflow_add-s
+overflow_add-s c =
     let d = some_digit _ c.unwrap-high.result (sym c.unwrap-high.ensures ∙ c.digit_of.ensures.value) in
     let e = some_digit _ c.unwrap-low.result (sym c.unwrap-low.ensures ∙ c.digit_of-in-loop-i.ensures.value) in
     omega arith
@@ -25,8 +25,8 @@ pub loop-i-preserved : goal.loop-i-preserved
 loop-i-preserved c =
     let d = some_digit _ c.unwrap-high.result (sym c.unwrap-high.ensures ∙ c.digit_of.ensures.value) in
     let e = some_digit _ c.unwrap-low.result (sym c.unwrap-low.ensures ∙ c.digit_of-in-loop-i.ensures.value) in
-    decode-next c.args.line.now c.args.start c.args.stop (omega arith) (omega arith) c.requires.2 c.loop-i.line c.loop-i.i c.loop-i.invariant (omega arith) _ _ _ d.0 e.0 refl
+    decode-next c.args.s.now c.requires c.loop-i.s c.loop-i.i c.loop-i.invariant (omega arith) _ _ _ d.0 e.0 refl
 
 pub returns : goal.returns
 returns c =
-    decode-all c.args.line.now c.args.start c.args.stop (omega arith) (omega arith) c.requires.2 c.loop-i.line c.loop-i.i (omega arith) c.loop-i.invariant
+    decode-all c.args.s.now c.requires c.loop-i.s c.loop-i.i (omega arith) c.loop-i.invariant

@@ -1,18 +1,18 @@
-use Rattle.std.proofs.Common.{arith, refl, sym, ◌∙◌}
+use Rattle.std.proofs.Common.{refl, sym, ap, ◌∙◌, ℕ, ◌/◌, Some}
 use Rattle.laws.specs.If.{yes, no}
-use Rattle.program_digits.specs.Digits.{decoded}
+use Rattle.program_digits.specs.Digits.{read_here, octet_count}
 use Rattle.program_digits.proofs.read_octets.Goals as goal
 
 pub decode-requires : goal.decode-requires
 decode-requires c =
-    (omega arith, omega arith, sym c.is_hex-hex.ensures ∙ c.if-hex.true)
+    sym c.is_hex.ensures ∙ c.if-not-is_hex.false
 
-pub returns-then-hex : goal.returns-then-hex
-unfolding decoded
-returns-then-hex c =
-    (c.is_hex-hex.ensures, yes _ _ _ (sym c.is_hex-hex.ensures ∙ c.if-hex.true) c.decode.ensures, c.decode.auto.line)
+pub returns-then-not-is_hex : goal.returns-then-not-is_hex
+unfolding read_here octet_count
+returns-then-not-is_hex c =
+    (no _ _ _ (sym c.is_hex.ensures ∙ c.if-not-is_hex.true) refl, no _ _ _ (sym c.is_hex.ensures ∙ c.if-not-is_hex.true) refl)
 
-pub returns-else-hex : goal.returns-else-hex
-unfolding decoded
-returns-else-hex c =
-    (c.is_hex-hex.ensures, no _ _ _ (sym c.is_hex-hex.ensures ∙ c.if-hex.false) refl, refl)
+pub returns : goal.returns
+unfolding read_here octet_count
+returns c =
+    (yes _ _ _ (sym c.is_hex.ensures ∙ c.if-not-is_hex.false) (ap Some (ap (λ (n : ℕ). n / 2) c.decode.auto.s)), yes _ _ _ (sym c.is_hex.ensures ∙ c.if-not-is_hex.false) c.decode.ensures)
