@@ -1,7 +1,8 @@
 -- THE COMPONENTS LISTED: what one turn of the listing does, and that it lists what 01's reader gives. Assumes nothing.
-use Rattle.std.specs.Prelude.{◌≡◌, refl, List, ℕ, ◌+◌, ◌<◌, ◌≤◌, length, get_or, None, Some}
+use Rattle.std.specs.Prelude.{◌≡◌, refl, List, [], ◌∷◌, ℕ, ◌+◌, ◌<◌, ◌≤◌, length, get_or, None, Some}
 use Rattle.std.proofs.Common.{sym, subst, arith}
 use Rattle.std.specs.Borrow.{Bor}
+use Rattle.std.specs.Iterator.{Yields}
 use Rattle.paper.specs.Components.{Item}
 use Rattle.paper.specs.Readers.{message_items}
 use Rattle.reading_reader.specs.declared.Piece.{Piece}
@@ -57,3 +58,10 @@ module _ (s : List ℕ) (r q : Reader) (l : Listed) (w : Stands s r l) where
 -- few are listed
 pub stands-few : (msg : Bor (List ℕ)) (r : Reader) (l : Listed) → ((i : ℕ) → get_or msg.now i 0 < 256) → Stands msg.now r l → l.count ≤ 512
 stands-few msg r l octets w = omega (arith, (gives-few (at_start msg) (message_items msg.now) octets (reader-gives msg octets)).1, w.all)
+
+-- what a reader gives up to its end, with what is listed before, is what 01's reader gives
+pub stands-whole : (s : List ℕ) (r q u : Reader) (l : Listed) (ps : List Piece) → Stands s r l → Yields Goes r ps q → Goes q None u → l.count + length ps ≡ length (message_items s)
+stands-whole s r q u l [] w y g =
+    let v : Stands s q l = subst (λ (r : Reader). Stands s r l) y w in
+    omega (arith, stands-over s q u l v g)
+stands-whole s r q u l (p ∷ ps) w y g = omega (arith, stands-whole s y.0 q u (with_piece l p) ps (stands-next s r y.0 l w p y.1) y.2 g)

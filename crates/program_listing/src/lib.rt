@@ -79,27 +79,25 @@ pub struct Listed {
     pub last: Option<Cursor>,
 }
 
-// With the next one; a line for it, where it is to be shown.
-fn taken(rt: &impl Print, l: Listed, p: Piece, shown: bool) -> Listed
+// With the next one, and a line for it.
+fn taken(rt: &impl Print, l: Listed, p: Piece) -> Listed
     requires { (l.count ≤ 512)
         × (p.at < 65536)
         × (p.component.stop < 65536)
         × (p.component.par ≤ p.component.parstop) }
     ensures { result ≡ with_piece l p }
 {
-    if shown {
-        let mut out = [0u8; 256];
-        let n = component_line(&mut out, p.at, p.component);
-        program_text::say(rt, &out, n);
-    }
+    let mut out = [0u8; 256];
+    let n = component_line(&mut out, p.at, p.component);
+    program_text::say(rt, &out, n);
     Listed {
         count: l.count + 1,
         last: Some(p.next),
     }
 }
 
-// Those that "a reader that stays on one message" gives (01, "Rows").
-pub fn components(rt: &impl Print, msg: &[u8], shown: bool) -> Listed
+// A line for each component that "a reader that stays on one message" gives (01, "Rows").
+pub fn components(rt: &impl Print, msg: &[u8]) -> Listed
     ensures { result.count ≡ length (message_items msg.now) }
 {
     let mut l = Listed {
@@ -107,7 +105,14 @@ pub fn components(rt: &impl Print, msg: &[u8], shown: bool) -> Listed
         last: None,
     };
     for p in Reader::new(msg) {
-        l = taken(rt, l, p, shown);
+        l = taken(rt, l, p);
     }
     l
+}
+
+// How many those are.
+pub fn count(msg: &[u8]) -> usize
+    ensures { result ≡ length (message_items msg.now) }
+{
+    Reader::new(msg).count()
 }
