@@ -41,7 +41,7 @@ unfolding view
 returns c =
     let f = c.in_ok-c.ensures.fine in
     enters c.args.t.now (spaces c.args.lent) (spaces c.args.least) c.args.service (omega arith) (omega arith) c.in_ok-c.c.counts c.in_ok-c.c.unused c.in_ok-c.c.free c.in_ok-c.ensures.is
-    f (omega arith) c.gives_place-may.result _ _ _ c.number-count.ensures.0 c.share_at-share.ensures.0 c.share_at-share.ensures.1 c.gives_place-may.ensures
+    f (omega arith) c.gives_place.result _ _ _ c.from.ensures c.share_at-share.ensures.0 c.share_at-share.ensures.1 c.gives_place.ensures
 
 pub slice_bounds-share_at-end : goal.slice_bounds-share_at-end
 slice_bounds-share_at-end c =
