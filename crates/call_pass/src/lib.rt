@@ -110,9 +110,11 @@ fn reject_refusal(
     if state == DIALOGUE_OPEN {
         return Err(Refusal::WrongState);
     }
-    let Some(Party::User) = reading_problems::sender(problem / 256, problem % 256) else {
-        return Err(Refusal::WrongCode);
-    };
+    match reading_problems::sender(problem / 256, problem % 256) {
+        Some(Party::User) => {}
+        Some(Party::SubLayer) => return Err(Refusal::WrongCode),
+        None => return Err(Refusal::WrongCode),
+    }
     let v = dialogue_invocations::invocation_of(l, u32::from(id));
     if !dialogue_invocations::may_reject(problem / 256, v) {
         return Err(Refusal::WrongInvocation);
