@@ -89,6 +89,7 @@ fn frame_ends(s: &[u8], left: usize, e: usize, p: usize) -> bool
 }
 
 // An operation or error at p: after it nothing, or a parameter and nothing more.
+// Stays: these are the parameters of `last_piece` in paper/specs/Components; a struct of them would be taken apart in its clause.
 #[tactic(auto, unfolding(paper::specs::Components::last_piece, laws::specs::If::if_lt, laws::specs::If::if_eq, laws::specs::If::if_b))]
 fn last_piece(s: &[u8], t: u8, id: u32, linked: u32, x: usize, e: usize, p: usize) -> Component
     requires { e ≤ length s.now }
@@ -196,6 +197,7 @@ fn problem_at(s: &[u8], e: usize, p: usize) -> Option<u32>
 }
 
 // A faulty reject "returns one to Idle only if ID and tag 81 can be read": the tag after the ID, at p.
+// Stays: a number with 65,535 for none, as `tag81` of paper/specs/Components gives it and `problem` of a Component holds it.
 #[tactic(auto, unfolding(paper::specs::Components::tag81, laws::specs::If::if_lt, laws::specs::If::if_eq))]
 fn tag_81(s: &[u8], id: u32, e: usize, p: usize) -> u32
     requires { e ≤ length s.now }
@@ -315,6 +317,7 @@ fn unrecognized(s: &[u8], t: u8, f: Frame) -> Component
 }
 
 // The first octet at a position, 0 where there is none.
+// Stays: 0 for none, as `tag_at` of paper/specs/Components gives it: no tag is 0.
 #[tactic(auto, unfolding(paper::specs::Components::tag_at, laws::specs::If::if_lt, laws::specs::If::if_eq))]
 pub fn tag_at(s: &[u8], lim: usize, at: usize) -> u8
     requires { lim ≤ length s.now }

@@ -207,6 +207,7 @@ fn contents(s: &[u8], left: usize, indefinite: bool, lim: usize, outer: usize, a
 }
 
 // The frame: "an indefinite 6C or component has its end found when well-formed elements lead up to 00 00".
+// Stays: a frame that is none is `Frame::NONE`, since `frame_at` of paper/specs/Elements gives `no_frame`.
 #[tactic(auto, unfolding(paper::specs::Elements::frame_at))]
 pub fn frame_at(s: &[u8], left: usize, lim: usize, at: usize) -> Frame
     requires { lim ≤ length s.now }

@@ -27,6 +27,7 @@ struct Seen {
 }
 
 impl Seen {
+    // Stays: a number, as `fault_of` of paper/specs/Messages gives it and `fault` of a Message holds it.
     fn fault(self, cause: u8) -> Message
         ensures { result ≡ fault_of (seen self) cause }
     {
@@ -71,6 +72,7 @@ impl Seen {
 }
 
 // An ID at a position, "a length 1 to 4 and that many octets inside the message".
+// Stays: a run that is none is `Run::NONE`, since `id_at` of paper/specs/Messages gives `no_run`.
 #[tactic(auto, unfolding(paper::specs::Messages::id_at, laws::specs::If::if_lt, laws::specs::If::if_eq, laws::specs::If::if_b))]
 fn id_at(s: &[u8], tag: u8, at: usize) -> Run
     ensures is { result ≡ id_at s.now tag at }
@@ -157,6 +159,7 @@ fn closes(s: &[u8], indefinite: bool, p: usize) -> bool
 }
 
 // The octet at a position inside the message, 0 past its end: no tag is 0.
+// Stays: 0 for none, as `octet_at` of paper/specs/Messages gives it.
 #[tactic(auto, unfolding(paper::specs::Messages::octet_at, laws::specs::If::if_lt, laws::specs::If::if_eq, laws::specs::If::if_b))]
 fn octet_at(s: &[u8], p: usize) -> u8
     ensures is { result ≡ octet_at s.now p }

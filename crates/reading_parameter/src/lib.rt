@@ -7,6 +7,7 @@ ghost use Rattle.paper.specs.Readers.{parameter_of, parameter_at, parameter};
 use paper::{Component, NO_FAULT, Run};
 
 // The parameter of a component that was read and should stop at `stop`.
+// Stays: a run that is none is `Run::NONE`, since `parameter_of` of paper/specs/Readers gives `no_run`.
 #[tactic(auto, unfolding(paper::specs::Readers::parameter_of, laws::specs::If::if_lt, laws::specs::If::if_eq))]
 fn parameter_of(stop: usize, c: Component) -> Run
     requires { c.par ≤ c.parstop }

@@ -29,6 +29,7 @@ const STRUCTURED: [u8; 9] = [6, 7, 0, 0x11, 0x86, 5, 1, 1, 1];
 const UNSTRUCTURED: [u8; 9] = [6, 7, 0, 0x11, 0x86, 5, 1, 2, 1];
 
 // The element at p, if it is of that tag, with `left` depths to go.
+// Stays: a frame that is none is `Frame::NONE`, since `tagged` of paper/specs/Portions gives `no_frame`.
 #[tactic(auto, unfolding(paper::specs::Portions::tagged, laws::specs::If::if_lt, laws::specs::If::if_eq))]
 fn tagged(l: &[u8], left: usize, tag: u8, e: usize, p: usize) -> Frame
     requires { e ≤ length l.now }
@@ -79,6 +80,7 @@ fn value_in(l: &[u8], most: u32, f: Frame) -> Option<u32>
 }
 
 // What is read so far, with the next piece at another place; 0: a piece is wrong.
+// Stays: 0 for a wrong piece, as `piece` of paper/specs/Portions gives it and `at` of a Pdu holds it.
 fn goes_to(w: Pdu, at: usize) -> Pdu
     ensures { result ≡ goes_to w at }
 {
