@@ -1,5 +1,6 @@
 // The free map (01, "Sizes"): "A free place is found in a map of 64-bit words, one bit a place; the lowest is taken."
 // It is the first 16 octets of the table; a bit is set where its place is free.
+// Stays: the functions take the table as the C interface lends it, a slice, and no array: a change of the map is a change of the table (with_bit, without_bit).
 #![tactic(auto)]
 
 ghost use Rattle.std.specs.Prelude.{◌≡◌, ◌++◌, ◌+◌, ◌*◌, ◌-◌, ◌≤◌, ◌<◌, length, take};
@@ -29,6 +30,7 @@ fn lowest_of(low: u64, high: u64) -> u32
 }
 
 // The lowest free place, 128 where there is none.
+// Stays: none is the number 128 in the definition lowest, and comes of trailing_zeros without a test.
 pub fn lowest_free(t: &[u8]) -> usize
     requires { map_size ≤ length t.now }
     ensures { (result ≡ lowest (octet_digits (take map_size t.now))) × (result ≤ places_in_all) }

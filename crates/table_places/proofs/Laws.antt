@@ -13,26 +13,16 @@ use Rattle.laws.specs.If.{if_eq, lt, eq, ne, yes, no}
 use Rattle.paper.specs.Sizes.{places_in_all, most_waiting, place_of, turn_of}
 use Rattle.paper.specs.Dialogues.{Place}
 use Rattle.paper.specs.Calls.{place_at, is_free, is_dialogue, owns}
-use Rattle.paper.specs.Layout.{place_start, place_size, waiting_length_at, waiting_start, control_by, place_by, slot, view}
+use Rattle.paper.specs.Layout.{place_start, waiting_length_at, waiting_start, control_by, place_by, slot, view}
 use Rattle.table_laws.specs.Octets.{waiting_from}
 use Rattle.table_laws.proofs.Octets.{length_at}
 use Rattle.table_laws.proofs.Whole.{view-at}
 use Rattle.table_laws.specs.Ready.{Ready}
 use Rattle.table_laws.proofs.Ready.{ready-slot}
 
--- the part of the table that is lent for place p
-abbrev pub lent : List ℕ → ℕ → List ℕ
-lent t p = take (place_start p + place_size - place_start p) (drop (place_start p) t)
-
 module _ (t : List ℕ) (p : ℕ) (h : p < places_in_all) where
   pub slot-place : (s : List ℕ) → s ≡ slot t p → place_by s ≡ place_at (view t) p
   slot-place s e = ap place_by e ∙ sym (view-at t p h)
-
-  pub lent-place : place_by (lent t p) ≡ place_at (view t) p
-  unfolding slot
-  lent-place =
-      let n : place_start p + place_size - place_start p ≡ place_size = omega arith in
-      slot-place (lent t p) (ap (λ (k : ℕ). take k (drop (place_start p) t)) n)
 
   pub control-is : (s : List ℕ) → s ≡ slot t p → control_by s ≡ (place_at (view t) p).control
   unfolding place_by

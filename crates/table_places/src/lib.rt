@@ -28,6 +28,7 @@ const NO_INVOCATION: Invocation = Invocation {
 
 const NO_REJECT: Reject = Reject { id: 0, problem: 0 };
 
+// Stays: the table is a slice with its length in the clauses, as the C interface lends it; Ready, which the calls keep, has the length too.
 // ---- LOADED
 // The control record of place p.
 pub fn load(t: &[u8], p: usize) -> Control
@@ -98,6 +99,7 @@ pub fn owner(t: &[u8], service: u32, dialogue: u32) -> bool
 }
 
 // The control record of a dialogue that is begun in a free place.
+// Stays: a peer's ID and its length are two fields of Control, and two arguments of the definition begun.
 pub fn begun(turn: u32, state: u8, service: u8, peerlen: u8, peer: [u8; 4]) -> Control
     ensures { result ≡ begun turn state service peerlen peer }
 {
@@ -114,6 +116,7 @@ pub fn begun(turn: u32, state: u8, service: u8, peerlen: u8, peer: [u8; 4]) -> C
 }
 
 // The lowest free place, 128 where there is none.
+// Stays: none is the number 128 in the definition lowest_free.
 pub fn lowest_place(t: &[u8]) -> usize
     requires { Ready t.now }
     ensures { (result ≡ lowest_free (view t.now)) × (result ≤ places_in_all) }
@@ -147,6 +150,7 @@ fn invocation_mark(v: Invocation) -> u8
     v.state % 8 + v.class % 8 * 8 + v.shown % 4 * 64
 }
 
+// Stays: this and reject_octets are a loop each; one for both would take two closures with their laws, and be longer than the two.
 fn invocation_octets(l: [Invocation; MOST_INVOCATIONS]) -> [u8; 2 * MOST_INVOCATIONS]
     ensures { result ≡ invocation_pairs l }
 {
@@ -165,6 +169,7 @@ fn reject_mark(r: Reject) -> u8
 }
 
 // Those of the n that wait. The others are none (01, "octets and invocations not in use are zero"), and the octets of none are 0.
+// Stays: the rejects and how many of them wait are two fields of Control; FineRejects speaks of both.
 fn reject_octets(l: [Reject; MOST_REJECTS], n: u8) -> [u8; 2 * MOST_REJECTS]
     requires { (n ≤ most_rejects) × FineRejects n l }
     ensures { result ≡ reject_pairs l }

@@ -1,4 +1,5 @@
 // Everything the engine writes (01, "Coding"): into a lent space, at a position; each answers the position past it.
+// Stays: a space and a position in it are two arguments, since the record Wrote, on which every crate above rests, speaks of both.
 #![tactic(auto)]
 
 ghost use Rattle.std.specs.Prelude.{◌≡◌, ◌+◌, ◌-◌, ◌<◌, ◌≤◌, [], ◌∷◌, length, replicate};

@@ -7,7 +7,8 @@ ghost use Rattle.paper.specs.Rows.{signed, start_of, extent_of, dialogue_row, ca
 
 use paper::{Component, NO_ID, NO_PROBLEM, ROW_CANCEL, Row, Run};
 
-// An ID's octet as a signed number plus 128; 256 none.
+// An ID's octet as a signed number plus 128; NO_ID none.
+// Stays: none is a number, as in the definition signed and in a row.
 fn signed(octet: u32) -> u32
     ensures { result ≡ signed octet }
 {

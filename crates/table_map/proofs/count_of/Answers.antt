@@ -5,10 +5,6 @@ use lib.Count.{ones, ones-le}
 use Rattle.laws.specs.Digits.{digits, count, ones-count, count-append}
 use Rattle.table_map.proofs.count_of.Goals as goal
 
-pub overflow_add-result : goal.overflow_add-result
-overflow_add-result c =
-    omega (arith, ones-le 64 c.args.low (omega arith), ones-le 64 c.args.high (omega arith))
-
 pub returns : goal.returns
 returns c =
     let low : c.args.low < 2 ^ 64 = omega arith in

@@ -7,10 +7,6 @@ pub returns-then-low-ne0 : goal.returns-then-low-ne0
 returns-then-low-ne0 c =
     (lowest-two c.args.low c.args.high (omega arith) (omega arith), omega (arith, trailing_le 64 c.args.low))
 
-pub overflow_add-result : goal.overflow_add-result
-overflow_add-result c =
-    omega (arith, trailing_le 64 c.args.high)
-
 pub returns-else-low-ne0 : goal.returns-else-low-ne0
 returns-else-low-ne0 c =
     (lowest-high c.args.low c.args.high (omega arith), omega (arith, trailing_le 64 c.args.high))
