@@ -9,11 +9,11 @@ pub struct Lent<'a> {
     pub space: &'a mut [u8],
 }
 
-// Whose lines are played: what parts their words, and what is done with a line.
+// Whose lines are played: what parts their words, and what is done with a line, `None` where it cannot be read.
 pub trait Player {
     const SEPARATOR: u8;
 
-    fn play(rt: &impl Print, lent: &mut Lent, line: &mut [u8], number: u64);
+    fn play(rt: &impl Print, lent: &mut Lent, line: &mut [u8], number: u64) -> Option<()>;
 }
 
 // A line that is longer than its space cannot be read. Nothing says that the input ends, so the loop counts its turns, up to a number
@@ -29,11 +29,12 @@ pub fn lines<P: Player>(
         let Some(l) = program_lines::next(rt, buf, line, &mut input) else {
             break;
         };
-        match l.count {
+        let played = match l.count {
             Some(n) => P::play(rt, lent, &mut line[..n], l.number),
-            None => {
-                program_lines::bad(rt, l.number, P::SEPARATOR);
-            }
+            None => None,
+        };
+        if played.is_none() {
+            program_lines::bad(rt, l.number, P::SEPARATOR);
         }
     }
 }

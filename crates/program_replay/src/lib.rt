@@ -13,9 +13,7 @@ pub struct Replay;
 impl Player for Replay {
     const SEPARATOR: u8 = b' ';
 
-    fn play(rt: &impl Print, lent: &mut Lent, line: &mut [u8], number: u64) {
-        if call::play(rt, lent, line).is_none() {
-            program_lines::bad(rt, number, b' ');
-        }
+    fn play(rt: &impl Print, lent: &mut Lent, line: &mut [u8], _number: u64) -> Option<()> {
+        call::play(rt, lent, line)
     }
 }

@@ -83,9 +83,8 @@ fn count_line(rt: &impl Print, n: u64) {
     program_text::say(rt, &out, c);
 }
 
-// That, how many components the reader gives, and a line for each.
+// That, of the components that the reader gives, and a line for each.
 pub fn component_lines(rt: &impl Print, s: &[u8]) {
-    let l = program_listing::components(rt, s, false);
-    count_line(rt, l.count);
-    program_listing::components(rt, s, true);
+    count_line(rt, program_listing::count(s) as u64);
+    program_listing::components(rt, s);
 }

@@ -12,12 +12,9 @@ pub struct Session;
 impl Player for Session {
     const SEPARATOR: u8 = b'\t';
 
-    fn play(rt: &impl Print, lent: &mut Lent, line: &mut [u8], number: u64) {
-        match call::play(lent, line) {
-            Some(p) => show::line(rt, number, p, lent),
-            None => {
-                program_lines::bad(rt, number, b'\t');
-            }
-        }
+    fn play(rt: &impl Print, lent: &mut Lent, line: &mut [u8], number: u64) -> Option<()> {
+        let p = call::play(lent, line)?;
+        show::line(rt, number, p, lent);
+        Some(())
     }
 }

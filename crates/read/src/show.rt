@@ -94,7 +94,7 @@ fn components(rt: &impl Print, s: &[u8], m: Message)
     if m.fault != IS_SOUND || m.from == 0 {
         return;
     }
-    match program_listing::components(rt, s, true).last {
+    match program_listing::components(rt, s).last {
         None => fault(rt, s, m.to, m.from),
         Some(k) if k.at < k.lim => fault(rt, s, k.lim, k.at),
         Some(_) => {}
