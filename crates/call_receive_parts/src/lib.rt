@@ -1,7 +1,7 @@
 // A received message over the lent table (01, "A received message"): what it makes of the table, its rows, and the Abort that it is answered by.
 #![tactic(auto)]
 
-ghost use Rattle.std.specs.Prelude.{◌≡◌, [], ◌+◌, ◌*◌, ◌<◌, ◌≤◌, length, get_or, take, drop};
+ghost use Rattle.std.specs.Prelude.{◌≡◌, [], ◌+◌, ◌<◌, ◌≤◌, length, get_or};
 ghost use Rattle.laws.specs.If.{if_eq};
 ghost use Rattle.laws.specs.Lists.{pad};
 ghost use Rattle.paper.specs.Sizes.{services, longest_message, least_rows, least_space, place_of};
@@ -20,9 +20,9 @@ ghost use Rattle.call_receive_parts.specs.Receives.{Read, Standing, Begins, Rowe
 
 use call_receive_rows::Shown;
 use paper::{
-    Control, DIALOGUE_ACTIVE, DIALOGUE_FREE, DIALOGUE_OPEN, DIALOGUE_RECEIVED, DIALOGUE_SENT,
-    IS_DROPPED, IS_SOUND, Message, NO_PROBLEM, ROW_ABORT, ROW_BEGIN, ROW_CONTINUE, ROW_END,
-    ROW_UNI, ROW_USER_ABORT, Row, Run, TURNS,
+    BEGIN_TAG, CONTINUE_TAG, Control, DIALOGUE_ACTIVE, DIALOGUE_FREE, DIALOGUE_OPEN,
+    DIALOGUE_RECEIVED, DIALOGUE_SENT, END_TAG, IS_DROPPED, IS_SOUND, Message, NO_PROBLEM,
+    ROW_ABORT, ROW_BEGIN, ROW_CONTINUE, ROW_END, ROW_UNI, ROW_USER_ABORT, Row, Run, TURNS, UNI_TAG,
 };
 
 // How many rows, and how long the message is.
@@ -32,48 +32,33 @@ pub struct Received {
     pub length: u32,
 }
 
-const NONE: Run = Run {
-    start: 0,
-    length: 0,
-};
-
 // ---- IDS
 // Four octets as a number, high first.
-fn four(a: u8, b: u8, c: u8, d: u8) -> u32
-    ensures { result ≡ a * 16777216 + b * 65536 + c * 256 + d }
-{
-    (a as u32) * TURNS + (b as u32) * 65536 + (c as u32) * 256 + (d as u32)
-}
-
 fn number_at(s: &[u8], a: usize) -> u32
     requires { a + 4 ≤ length s.now }
     ensures { result ≡ number_at s.now a }
 {
-    four(s[a], s[a + 1], s[a + 2], s[a + 3])
+    u32::from_be_bytes([s[a], s[a + 1], s[a + 2], s[a + 3]])
 }
 
-// An octet of an ID of n octets at a, 0 past its end.
-fn octet_of(s: &[u8], a: usize, n: usize, i: usize) -> u8
-    requires { a + n ≤ length s.now }
-    ensures { result ≡ get_or (take n (drop a s.now)) i 0 }
+// An octet of an ID, 0 past its end.
+fn octet_of(s: &[u8], id: Run, i: usize) -> u8
+    requires { RunIn (length s.now) id }
+    ensures { result ≡ get_or (octets_at s.now id) i 0 }
 {
-    if i < n {
-        return s[a + i];
-    }
-    return 0;
+    if i < id.length { s[id.start + i] } else { 0 }
 }
 
 fn peer_of(s: &[u8], id: Run) -> [u8; 4]
     requires { RunIn (length s.now) id }
     ensures { result ≡ pad 4 (octets_at s.now id) }
 {
-    let a = id.start;
-    let n = id.length;
+    // Stays: four calls by hand; array::from_fn was tried, and the proof didn't close.
     [
-        octet_of(s, a, n, 0),
-        octet_of(s, a, n, 1),
-        octet_of(s, a, n, 2),
-        octet_of(s, a, n, 3),
+        octet_of(s, id, 0),
+        octet_of(s, id, 1),
+        octet_of(s, id, 2),
+        octet_of(s, id, 3),
     ]
 }
 
@@ -82,19 +67,12 @@ fn assigned(t: &[u8], service: u32, s: &[u8], m: Message) -> bool
     requires { Ready t.now × Read s.now m }
     ensures { result ≡ assigned (view t.now) service s.now m }
 {
-    let d = m.destination;
-    if d.length != 4 {
+    if m.destination.length != 4 {
         return false;
     }
-    let me = number_at(s, d.start);
-    if table_places::owner(t, service, me) {
-        let p = (me / TURNS) as usize;
-        if table_places::state_at(t, p) == DIALOGUE_OPEN {
-            return false;
-        }
-        return true;
-    }
-    return false;
+    let me = number_at(s, m.destination.start);
+    let p = (me / TURNS) as usize;
+    table_places::owner(t, service, me) && table_places::state_at(t, p) != DIALOGUE_OPEN
 }
 
 // ---- FAULTS
@@ -105,7 +83,7 @@ fn faulted_at(t: &mut [u8], dialogue: u32, cause: u8, rows: &mut [u8])
 {
     let p = (dialogue / TURNS) as usize;
     let cause = laws::number(cause);
-    let row = writing_rows::dialogue_row(ROW_ABORT, dialogue, cause, NONE, 0);
+    let row = writing_rows::dialogue_row(ROW_ABORT, dialogue, cause, Run::NONE, 0);
     writing_rows::write_row(rows, 0, row);
     table_places::free_at(t, p);
 }
@@ -131,18 +109,17 @@ fn faulted(
     let e = a + id.length;
     let n = writing_messages::write_cause_abort(space, 0, &s[a..e], cause);
     if assigned(t, service, s, m) {
-        let d = m.destination;
-        let me = number_at(s, d.start);
+        let me = number_at(s, m.destination.start);
         faulted_at(t, me, cause, rows);
         return Received {
             rows: 1,
             length: n as u32,
         };
     }
-    return Received {
+    Received {
         rows: 0,
         length: n as u32,
-    };
+    }
 }
 
 // ---- ROWS
@@ -159,12 +136,9 @@ fn components_shown(
     ensures { Shows me room control rows.old (items_of s.now m) result rows.new }
 {
     if m.from == 0 {
-        return Shown {
-            control: control,
-            count: 0,
-        };
+        return Shown { control, count: 0 };
     }
-    return call_receive_rows::show(s, m.from, m.to, control, room, rows, me);
+    call_receive_rows::show(s, m.from, m.to, control, room, rows, me)
 }
 
 // Row 0 is the dialogue's; its last number is how many follow.
@@ -242,7 +216,7 @@ fn begin_received(
         let k = begin_at(t, service, p, s, m, rows);
         return Received { rows: k, length: 0 };
     }
-    return faulted(t, service, s, m, 4, rows, space);
+    faulted(t, service, s, m, 4, rows, space)
 }
 
 // "Continue in Sent stores the peer's ID and makes Active; later ones don't change it."
@@ -253,13 +227,12 @@ fn continued(c: Control, s: &[u8], m: Message) -> Control
     if c.state != DIALOGUE_SENT {
         return c;
     }
-    let id = m.origin;
-    let peer = peer_of(s, id);
-    let mut d = c;
-    d.state = DIALOGUE_ACTIVE;
-    d.peerlen = id.length as u8;
-    d.peer = peer;
-    return d;
+    Control {
+        state: DIALOGUE_ACTIVE,
+        peerlen: m.origin.length as u8,
+        peer: peer_of(s, m.origin),
+        ..c
+    }
 }
 
 fn continue_received(t: &mut [u8], me: u32, s: &[u8], m: Message, rows: &mut [u8]) -> u32
@@ -293,10 +266,10 @@ fn abort_row(me: u32, m: Message, n: usize) -> Row
     ensures { result ≡ if_eq m.cause no_problem (dialogue_row row_user_abort me no_problem m.portion 0) (dialogue_row row_abort me m.cause no_run 0) }
 {
     if m.cause == NO_PROBLEM {
-        let portion = m.portion;
-        return writing_rows::dialogue_row(ROW_USER_ABORT, me, NO_PROBLEM, portion, 0);
+        writing_rows::dialogue_row(ROW_USER_ABORT, me, NO_PROBLEM, m.portion, 0)
+    } else {
+        writing_rows::dialogue_row(ROW_ABORT, me, m.cause, Run::NONE, 0)
     }
-    return writing_rows::dialogue_row(ROW_ABORT, me, m.cause, NONE, 0);
 }
 
 fn abort_received(t: &mut [u8], me: u32, s: &[u8], m: Message, rows: &mut [u8]) -> u32
@@ -325,21 +298,25 @@ fn to_dialogue(
 {
     let p = (me / TURNS) as usize;
     if table_places::state_at(t, p) == DIALOGUE_RECEIVED {
-        if m.tag == 0x65 {
+        if m.tag == CONTINUE_TAG {
             return faulted(t, service, s, m, 3, rows, space);
         }
         return Received { rows: 0, length: 0 };
     }
-    if m.tag == 0x65 {
-        let n = continue_received(t, me, s, m, rows);
-        return Received { rows: n, length: 0 };
+    match m.tag {
+        CONTINUE_TAG => {
+            let n = continue_received(t, me, s, m, rows);
+            Received { rows: n, length: 0 }
+        }
+        END_TAG => {
+            let n = end_received(t, me, s, m, rows);
+            Received { rows: n, length: 0 }
+        }
+        _ => {
+            let n = abort_received(t, me, s, m, rows);
+            Received { rows: n, length: 0 }
+        }
     }
-    if m.tag == 0x64 {
-        let n = end_received(t, me, s, m, rows);
-        return Received { rows: n, length: 0 };
-    }
-    let n = abort_received(t, me, s, m, rows);
-    return Received { rows: n, length: 0 };
 }
 
 // A sound message, by its type: "destination not assigned, 1".
@@ -355,19 +332,20 @@ fn sound_received(
     requires { Begins t.old service may × Read s.now m × (least_rows ≤ length rows.old) × (least_space ≤ length space.old) × (m.fault ≡ is_sound) }
     ensures { Receives (sound_received (view t.old) service s.now m) result t.new rows.old rows.new space.old space.new }
 {
-    if m.tag == 0x61 {
-        let k = uni_received(s, m, rows);
-        return Received { rows: k, length: 0 };
+    match m.tag {
+        UNI_TAG => {
+            let k = uni_received(s, m, rows);
+            Received { rows: k, length: 0 }
+        }
+        BEGIN_TAG => begin_received(t, service, s, m, may, rows, space),
+        _ => {
+            if !assigned(t, service, s, m) {
+                return faulted(t, service, s, m, 1, rows, space);
+            }
+            let me = number_at(s, m.destination.start);
+            to_dialogue(t, service, me, s, m, rows, space)
+        }
     }
-    if m.tag == 0x62 {
-        return begin_received(t, service, s, m, may, rows, space);
-    }
-    if assigned(t, service, s, m) {
-        let d = m.destination;
-        let me = number_at(s, d.start);
-        return to_dialogue(t, service, me, s, m, rows, space);
-    }
-    return faulted(t, service, s, m, 1, rows, space);
 }
 
 // A MESSAGE of 1 to 512 octets, on a table that keeps the rules.
@@ -383,11 +361,9 @@ pub fn receive(
     ensures { Receives (received (view t.old) service s.now (message_of s.now)) result t.new rows.old rows.new space.old space.new }
 {
     let m = reading_messages::message_of(s);
-    if m.fault == IS_DROPPED {
-        return Received { rows: 0, length: 0 };
+    match m.fault {
+        IS_DROPPED => Received { rows: 0, length: 0 },
+        IS_SOUND => sound_received(t, service, s, m, may, rows, space),
+        _ => faulted(t, service, s, m, m.fault, rows, space),
     }
-    if m.fault == IS_SOUND {
-        return sound_received(t, service, s, m, may, rows, space);
-    }
-    return faulted(t, service, s, m, m.fault, rows, space);
 }

@@ -26,16 +26,12 @@ fn rejects_size(c: Control) -> usize
     ensures is { result ≡ length (waiting_rejects c) }
     ensures within { result ≤ 64 }
 {
-    let l = c.rejects;
     let n = laws::wide(c.count);
-    let mut sum: usize = 0;
-    let mut i: usize = 0;
-    while i < n {
-        let w = l[i];
-        sum = sum + writing_components::reject_size(w.id);
-        i += 1;
+    let mut sum = 0;
+    for w in &c.rejects[..n] {
+        sum += writing_components::reject_size(w.id);
     }
-    return sum;
+    sum
 }
 
 // The waiting rejects, one after another.
@@ -43,16 +39,12 @@ fn write_rejects(out: &mut [u8], at: usize, c: Control) -> usize
     requires { FineControl c × (at + length (waiting_rejects c) ≤ length out.old) }
     ensures { Wrote out.old at (waiting_rejects c) result out.new }
 {
-    let l = c.rejects;
     let n = laws::wide(c.count);
     let mut e = at;
-    let mut i: usize = 0;
-    while i < n {
-        let w = l[i];
+    for w in &c.rejects[..n] {
         e = writing_components::write_reject(out, e, w.id, w.problem);
-        i += 1;
     }
-    return e;
+    e
 }
 
 #[derive(Clone, Copy)]

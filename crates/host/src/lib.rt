@@ -25,14 +25,14 @@ pub extern "C" fn tcap_table_size() -> usize
 
 #[unsafe(no_mangle)]
 pub extern "C" fn tcap_fresh(table: &mut [u8], guarantees: &[u8], limits: &[u8]) -> Reply
-    ensures { Gives (fresh_outcome table.entry.now guarantees.now limits.now) result.answer result.rows result.length result.dialogue (record { table = table.exit.now; rows = []; space = [] }) }
+    ensures { Gives (fresh_outcome table.old guarantees.now limits.now) result.answer result.rows result.length result.dialogue (record { table = table.new; rows = []; space = [] }) }
 {
     call_open::fresh(table, guarantees, limits)
 }
 
 #[unsafe(no_mangle)]
 pub extern "C" fn tcap_open(table: &mut [u8], service: u32) -> Reply
-    ensures { Gives (outcome (record { table = table.entry.now; rows = []; space = [] }) (Open service)) result.answer result.rows result.length result.dialogue (record { table = table.exit.now; rows = []; space = [] }) }
+    ensures { Gives (outcome (record { table = table.old; rows = []; space = [] }) (Open service)) result.answer result.rows result.length result.dialogue (record { table = table.new; rows = []; space = [] }) }
 {
     call_open::open(table, service)
 }
@@ -47,7 +47,7 @@ pub extern "C" fn tcap_invoke(
     operation: &[u8],
     parameter: &[u8],
 ) -> Reply
-    ensures { Gives (outcome (record { table = table.entry.now; rows = []; space = [] }) (OnDialogue service dialogue (Invoke (octet_of id) no_id class operation.now parameter.now))) result.answer result.rows result.length result.dialogue (record { table = table.exit.now; rows = []; space = [] }) }
+    ensures { Gives (outcome (record { table = table.old; rows = []; space = [] }) (OnDialogue service dialogue (Invoke (octet_of id) no_id class operation.now parameter.now))) result.answer result.rows result.length result.dialogue (record { table = table.new; rows = []; space = [] }) }
 {
     let octet = call_entry::octet_of(id);
     let invoke = Passing::AnInvoke(octet, NO_ID, class);
@@ -65,7 +65,7 @@ pub extern "C" fn tcap_invoke_linked(
     operation: &[u8],
     parameter: &[u8],
 ) -> Reply
-    ensures { Gives (outcome (record { table = table.entry.now; rows = []; space = [] }) (OnDialogue service dialogue (Invoke (octet_of id) (octet_of linked) class operation.now parameter.now))) result.answer result.rows result.length result.dialogue (record { table = table.exit.now; rows = []; space = [] }) }
+    ensures { Gives (outcome (record { table = table.old; rows = []; space = [] }) (OnDialogue service dialogue (Invoke (octet_of id) (octet_of linked) class operation.now parameter.now))) result.answer result.rows result.length result.dialogue (record { table = table.new; rows = []; space = [] }) }
 {
     let octet = call_entry::octet_of(id);
     let other = call_entry::octet_of(linked);
@@ -83,7 +83,7 @@ pub extern "C" fn tcap_result_last(
     operation: &[u8],
     parameter: &[u8],
 ) -> Reply
-    ensures { Gives (outcome (record { table = table.entry.now; rows = []; space = [] }) (OnDialogue service dialogue (Result last_tag (octet_of id) operation.now parameter.now))) result.answer result.rows result.length result.dialogue (record { table = table.exit.now; rows = []; space = [] }) }
+    ensures { Gives (outcome (record { table = table.old; rows = []; space = [] }) (OnDialogue service dialogue (Result last_tag (octet_of id) operation.now parameter.now))) result.answer result.rows result.length result.dialogue (record { table = table.new; rows = []; space = [] }) }
 {
     let octet = call_entry::octet_of(id);
     let last = Passing::AResult(LAST_TAG, octet);
@@ -99,7 +99,7 @@ pub extern "C" fn tcap_result_not_last(
     operation: &[u8],
     parameter: &[u8],
 ) -> Reply
-    ensures { Gives (outcome (record { table = table.entry.now; rows = []; space = [] }) (OnDialogue service dialogue (Result not_last_tag (octet_of id) operation.now parameter.now))) result.answer result.rows result.length result.dialogue (record { table = table.exit.now; rows = []; space = [] }) }
+    ensures { Gives (outcome (record { table = table.old; rows = []; space = [] }) (OnDialogue service dialogue (Result not_last_tag (octet_of id) operation.now parameter.now))) result.answer result.rows result.length result.dialogue (record { table = table.new; rows = []; space = [] }) }
 {
     let octet = call_entry::octet_of(id);
     let not_last = Passing::AResult(NOT_LAST_TAG, octet);
@@ -115,7 +115,7 @@ pub extern "C" fn tcap_error(
     error: &[u8],
     parameter: &[u8],
 ) -> Reply
-    ensures { Gives (outcome (record { table = table.entry.now; rows = []; space = [] }) (OnDialogue service dialogue (Error (octet_of id) error.now parameter.now))) result.answer result.rows result.length result.dialogue (record { table = table.exit.now; rows = []; space = [] }) }
+    ensures { Gives (outcome (record { table = table.old; rows = []; space = [] }) (OnDialogue service dialogue (Error (octet_of id) error.now parameter.now))) result.answer result.rows result.length result.dialogue (record { table = table.new; rows = []; space = [] }) }
 {
     let octet = call_entry::octet_of(id);
     let what = Passing::AnError(octet);
@@ -130,7 +130,7 @@ pub extern "C" fn tcap_reject(
     id: i8,
     problem: u32,
 ) -> Reply
-    ensures { Gives (outcome (record { table = table.entry.now; rows = []; space = [] }) (OnDialogue service dialogue (UserReject (octet_of id) problem))) result.answer result.rows result.length result.dialogue (record { table = table.exit.now; rows = []; space = [] }) }
+    ensures { Gives (outcome (record { table = table.old; rows = []; space = [] }) (OnDialogue service dialogue (UserReject (octet_of id) problem))) result.answer result.rows result.length result.dialogue (record { table = table.new; rows = []; space = [] }) }
 {
     let octet = call_entry::octet_of(id);
     let reject = Passing::AReject(octet, problem);
@@ -139,7 +139,7 @@ pub extern "C" fn tcap_reject(
 
 #[unsafe(no_mangle)]
 pub extern "C" fn tcap_cancel(table: &mut [u8], service: u32, dialogue: u32, id: i8) -> Reply
-    ensures { Gives (outcome (record { table = table.entry.now; rows = []; space = [] }) (OnDialogue service dialogue (Cancel (octet_of id)))) result.answer result.rows result.length result.dialogue (record { table = table.exit.now; rows = []; space = [] }) }
+    ensures { Gives (outcome (record { table = table.old; rows = []; space = [] }) (OnDialogue service dialogue (Cancel (octet_of id)))) result.answer result.rows result.length result.dialogue (record { table = table.new; rows = []; space = [] }) }
 {
     let octet = call_entry::octet_of(id);
     call_release::idle(table, service, dialogue, octet, Idler::User)
@@ -154,7 +154,7 @@ pub extern "C" fn tcap_begin(
     information: &[u8],
     space: &mut [u8],
 ) -> Reply
-    ensures { Gives (outcome (record { table = table.entry.now; rows = []; space = space.old }) (OnDialogue service dialogue (Begin name.now information.now))) result.answer result.rows result.length result.dialogue (record { table = table.exit.now; rows = []; space = space.new }) }
+    ensures { Gives (outcome (record { table = table.old; rows = []; space = space.old }) (OnDialogue service dialogue (Begin name.now information.now))) result.answer result.rows result.length result.dialogue (record { table = table.new; rows = []; space = space.new }) }
 {
     let begin = Sending::ABegin;
     call_send::send(table, service, dialogue, begin, name, information, space)
@@ -169,7 +169,7 @@ pub extern "C" fn tcap_continue(
     information: &[u8],
     space: &mut [u8],
 ) -> Reply
-    ensures { Gives (outcome (record { table = table.entry.now; rows = []; space = space.old }) (OnDialogue service dialogue (Continue name.now information.now))) result.answer result.rows result.length result.dialogue (record { table = table.exit.now; rows = []; space = space.new }) }
+    ensures { Gives (outcome (record { table = table.old; rows = []; space = space.old }) (OnDialogue service dialogue (Continue name.now information.now))) result.answer result.rows result.length result.dialogue (record { table = table.new; rows = []; space = space.new }) }
 {
     let next = Sending::AContinue;
     call_send::send(table, service, dialogue, next, name, information, space)
@@ -184,7 +184,7 @@ pub extern "C" fn tcap_end(
     information: &[u8],
     space: &mut [u8],
 ) -> Reply
-    ensures { Gives (outcome (record { table = table.entry.now; rows = []; space = space.old }) (OnDialogue service dialogue (End name.now information.now))) result.answer result.rows result.length result.dialogue (record { table = table.exit.now; rows = []; space = space.new }) }
+    ensures { Gives (outcome (record { table = table.old; rows = []; space = space.old }) (OnDialogue service dialogue (End name.now information.now))) result.answer result.rows result.length result.dialogue (record { table = table.new; rows = []; space = space.new }) }
 {
     let end = Sending::AnEnd;
     call_send::send(table, service, dialogue, end, name, information, space)
@@ -192,7 +192,7 @@ pub extern "C" fn tcap_end(
 
 #[unsafe(no_mangle)]
 pub extern "C" fn tcap_end_prearranged(table: &mut [u8], service: u32, dialogue: u32) -> Reply
-    ensures { Gives (outcome (record { table = table.entry.now; rows = []; space = [] }) (OnDialogue service dialogue Prearranged)) result.answer result.rows result.length result.dialogue (record { table = table.exit.now; rows = []; space = [] }) }
+    ensures { Gives (outcome (record { table = table.old; rows = []; space = [] }) (OnDialogue service dialogue Prearranged)) result.answer result.rows result.length result.dialogue (record { table = table.new; rows = []; space = [] }) }
 {
     call_release::end_prearranged(table, service, dialogue)
 }
@@ -205,7 +205,7 @@ pub extern "C" fn tcap_abort(
     portion: &[u8],
     space: &mut [u8],
 ) -> Reply
-    ensures { Gives (outcome (record { table = table.entry.now; rows = []; space = space.old }) (OnDialogue service dialogue (Abort portion.now))) result.answer result.rows result.length result.dialogue (record { table = table.exit.now; rows = []; space = space.new }) }
+    ensures { Gives (outcome (record { table = table.old; rows = []; space = space.old }) (OnDialogue service dialogue (Abort portion.now))) result.answer result.rows result.length result.dialogue (record { table = table.new; rows = []; space = space.new }) }
 {
     call_send::send_abort(table, service, dialogue, portion, space)
 }
@@ -219,7 +219,7 @@ pub extern "C" fn tcap_unidirectional(
     information: &[u8],
     space: &mut [u8],
 ) -> Reply
-    ensures { Gives (outcome (record { table = table.entry.now; rows = []; space = space.old }) (OnDialogue service dialogue (Unidirectional name.now information.now))) result.answer result.rows result.length result.dialogue (record { table = table.exit.now; rows = []; space = space.new }) }
+    ensures { Gives (outcome (record { table = table.old; rows = []; space = space.old }) (OnDialogue service dialogue (Unidirectional name.now information.now))) result.answer result.rows result.length result.dialogue (record { table = table.new; rows = []; space = space.new }) }
 {
     let alone = Sending::AUnidirectional;
     call_send::send(table, service, dialogue, alone, name, information, space)
@@ -233,7 +233,7 @@ pub extern "C" fn tcap_receive(
     rows: &mut [u8],
     space: &mut [u8],
 ) -> Reply
-    ensures { Gives (outcome (record { table = table.entry.now; rows = rows.old; space = space.old }) (Receive service message.now)) result.answer result.rows result.length result.dialogue (record { table = table.exit.now; rows = rows.new; space = space.new }) }
+    ensures { Gives (outcome (record { table = table.old; rows = rows.old; space = space.old }) (Receive service message.now)) result.answer result.rows result.length result.dialogue (record { table = table.new; rows = rows.new; space = space.new }) }
 {
     call_receive::receive(table, service, message, rows, space)
 }
@@ -246,7 +246,7 @@ pub extern "C" fn tcap_timeout(
     id: i8,
     rows: &mut [u8],
 ) -> Reply
-    ensures { Gives (outcome (record { table = table.entry.now; rows = rows.old; space = [] }) (OnDialogue service dialogue (Timeout (octet_of id)))) result.answer result.rows result.length result.dialogue (record { table = table.exit.now; rows = rows.new; space = [] }) }
+    ensures { Gives (outcome (record { table = table.old; rows = rows.old; space = [] }) (OnDialogue service dialogue (Timeout (octet_of id)))) result.answer result.rows result.length result.dialogue (record { table = table.new; rows = rows.new; space = [] }) }
 {
     let octet = call_entry::octet_of(id);
     call_release::timeout(table, service, dialogue, octet, rows)
@@ -259,7 +259,7 @@ pub extern "C" fn tcap_reject_timeout(
     dialogue: u32,
     id: i8,
 ) -> Reply
-    ensures { Gives (outcome (record { table = table.entry.now; rows = []; space = [] }) (OnDialogue service dialogue (RejectTimeout (octet_of id)))) result.answer result.rows result.length result.dialogue (record { table = table.exit.now; rows = []; space = [] }) }
+    ensures { Gives (outcome (record { table = table.old; rows = []; space = [] }) (OnDialogue service dialogue (RejectTimeout (octet_of id)))) result.answer result.rows result.length result.dialogue (record { table = table.new; rows = []; space = [] }) }
 {
     let octet = call_entry::octet_of(id);
     call_release::idle(table, service, dialogue, octet, Idler::RejectTimer)
@@ -272,7 +272,7 @@ pub extern "C" fn tcap_no_reaction(
     dialogue: u32,
     rows: &mut [u8],
 ) -> Reply
-    ensures { Gives (outcome (record { table = table.entry.now; rows = rows.old; space = [] }) (OnDialogue service dialogue NoReaction)) result.answer result.rows result.length result.dialogue (record { table = table.exit.now; rows = rows.new; space = [] }) }
+    ensures { Gives (outcome (record { table = table.old; rows = rows.old; space = [] }) (OnDialogue service dialogue NoReaction)) result.answer result.rows result.length result.dialogue (record { table = table.new; rows = rows.new; space = [] }) }
 {
     call_release::no_reaction(table, service, dialogue, rows)
 }

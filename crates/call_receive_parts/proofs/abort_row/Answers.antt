@@ -6,6 +6,6 @@ pub returns-then-m-eq-NO_PROBLEM : goal.returns-then-m-eq-NO_PROBLEM
 returns-then-m-eq-NO_PROBLEM c =
     eq _ _ _ _ (omega arith) c.dialogue_row.ensures
 
-pub returns : goal.returns
-returns c =
-    ne _ _ _ _ (λ h. omega arith) c.dialogue_row-2.ensures
+pub returns-else-m-eq-NO_PROBLEM : goal.returns-else-m-eq-NO_PROBLEM
+returns-else-m-eq-NO_PROBLEM c =
+    ne _ _ _ _ (λ h. omega arith) c.dialogue_row-else-m-eq-NO_PROBLEM.ensures

@@ -14,4 +14,4 @@ returns-then-c-ne-DIALOGUE_SENT c =
 pub returns : goal.returns
 unfolding continued_control
 returns c =
-    eq _ _ _ _ (omega arith) (ap (λ (l : List ℕ). with_peer c.args.c c.args.m.origin.length l) c.peer_of-peer.ensures)
+    eq _ _ _ _ (omega arith) (ap (λ (l : List ℕ). with_peer c.args.c c.args.m.origin.length l) c.peer_of.ensures)

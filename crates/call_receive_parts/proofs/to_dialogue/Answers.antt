@@ -6,9 +6,9 @@ use Rattle.call_receive_parts.specs.Receives.{receives-as, leaves-receives}
 use Rattle.call_receive_parts.proofs.Laws.{drop-receives}
 use Rattle.call_receive_parts.proofs.to_dialogue.Goals as goal
 
-pub returns-then-m-eq101 : goal.returns-then-m-eq101
+pub returns-then-m-eq-CONTINUE_TAG : goal.returns-then-m-eq-CONTINUE_TAG
 unfolding to_dialogue
-returns-then-m-eq101 c =
+returns-then-m-eq-CONTINUE_TAG c =
     receives-as (eq _ _ _ _ (omega arith) (eq _ _ _ _ (omega arith) refl)) c.faulted.ensures
 
 pub returns-then-state_at-eq-DIALOGUE_RECEIVED : goal.returns-then-state_at-eq-DIALOGUE_RECEIVED
@@ -20,17 +20,17 @@ pub continue_received-n-requires : goal.continue_received-n-requires
 continue_received-n-requires c =
     (c.requires.0, c.requires.1, c.requires.2, c.requires.1.lies.continues c.requires.4 (omega arith))
 
-pub returns-then-m-eq101-2 : goal.returns-then-m-eq101-2
+pub returns-in-101 : goal.returns-in-101
 unfolding to_dialogue
-returns-then-m-eq101-2 c =
+returns-in-101 c =
     receives-as (ne _ _ _ _ (λ h. omega arith) (eq _ _ _ _ (omega arith) refl)) (leaves-receives c.continue_received-n.ensures)
 
-pub returns-then-m-eq100 : goal.returns-then-m-eq100
+pub returns-in-100 : goal.returns-in-100
 unfolding to_dialogue
-returns-then-m-eq100 c =
+returns-in-100 c =
     receives-as (ne _ _ _ _ (λ h. omega arith) (ne _ _ _ _ (λ h. omega arith) (eq _ _ _ _ (omega arith) refl))) (leaves-receives c.end_received-n.ensures)
 
-pub returns : goal.returns
+pub returns-in_default : goal.returns-in_default
 unfolding to_dialogue
-returns c =
+returns-in_default c =
     receives-as (ne _ _ _ _ (λ h. omega arith) (ne _ _ _ _ (λ h. omega arith) (ne _ _ _ _ (λ h. omega arith) refl))) (leaves-receives c.abort_received-n.ensures)
