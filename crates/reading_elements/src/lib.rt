@@ -84,7 +84,8 @@ pub fn length_at(s: &[u8], lim: usize, at: usize) -> Length
     }
 }
 
-// The head of an element with any tag and length.
+// The head of an element with any tag and length; few are long, so `head_at` calls it and stays short itself.
+#[inline(never)]
 #[tactic(auto, unfolding(paper::specs::Elements::head_at, paper::specs::Elements::head_by, laws::specs::If::if_lt, laws::specs::If::if_eq))]
 fn any_head(s: &[u8], lim: usize, at: usize) -> Head
     requires { lim ≤ length s.now }
