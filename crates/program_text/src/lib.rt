@@ -4,6 +4,7 @@
 ghost use Rattle.std.specs.Prelude.{◌≤◌, min, ◌≡◌, List, [], ◌∷◌, length};
 ghost use Rattle.program_text.specs.Said.{Said};
 
+// Stays: the space and the place in it are two parameters, as `Said` (specs/Said.antt) says of each text where it begins and ends.
 // An octet.
 pub fn put(out: &mut [u8], at: usize, x: u8) -> usize
     ensures { Said out.old at (x ∷ []) result out.new }
