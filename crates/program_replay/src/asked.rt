@@ -1,7 +1,7 @@
 // What the fields of a line give, parted by one blank: `None` where a field gives something else than is asked for.
 ghost use Rattle.std.specs.Prelude.{◌≤◌, IfSome};
 
-use paper::NO_ID;
+use paper::{LAST_TAG, NO_ID, NOT_LAST_TAG};
 use program_words::Field;
 
 // How many blanks a line has.
@@ -65,8 +65,8 @@ pub fn linked(s: &[u8]) -> Option<u32>
 // The tag of a result: `L` last, `N` not last.
 pub fn result_tag(s: &[u8]) -> Option<u8> {
     match s {
-        b"L" => Some(162),
-        b"N" => Some(167),
+        b"L" => Some(LAST_TAG),
+        b"N" => Some(NOT_LAST_TAG),
         _ => None,
     }
 }

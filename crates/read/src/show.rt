@@ -91,6 +91,7 @@ fn fault(rt: &impl Print, s: &[u8], lim: usize, at: usize)
 fn components(rt: &impl Print, s: &[u8], m: Message)
     requires { (length s.now ≤ 512) × MessageIn (length s.now) m }
 {
+    // Stays: `from` is 0 where there are no components, as paper's definition of a message has it (specs/Messages.antt, message_of).
     if m.fault != IS_SOUND || m.from == 0 {
         return;
     }

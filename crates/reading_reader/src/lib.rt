@@ -38,6 +38,7 @@ fn first_cursor(s: &[u8]) -> Option<Cursor>
         return None;
     }
     let m = reading_messages::message_of(s);
+    // Stays: `from` is 0 where there are no components, as paper's definition of a message has it (specs/Messages.antt, message_of).
     if m.fault != IS_SOUND || m.from == 0 {
         return None;
     }

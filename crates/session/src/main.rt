@@ -7,7 +7,7 @@ use paper::{LEAST_ROWS, LEAST_SPACE, TABLE_OCTETS};
 use program_play::Lent;
 use program_session::Session;
 
-// A long line's space is lent as an array: a slice of so many octets would have the prover count them.
+// Stays: a function of its own that takes the space of a long line as an array; lent in `main`, as a slice, the prover counts its octets (tried).
 fn play(rt: &(impl Print + Input), lent: &mut Lent, line: &mut [u8; 1048576]) {
     program_play::lines::<Session>(rt, lent, &mut [0; 65536], line);
 }
