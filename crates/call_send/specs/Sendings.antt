@@ -9,7 +9,6 @@ use Rattle.laws.specs.If.{if_eq, if_b}
 use Rattle.laws.specs.Runs.{Wrote}
 use Rattle.paper.specs.declared.Control.{Control}
 use Rattle.paper.specs.declared.PduKind.{PduKind}
-use Rattle.paper.specs.declared.PduKind.TheVariants as PduKind
 use Rattle.paper.specs.Refusals.{pdu_number}
 use Rattle.paper.specs.Sizes.{id_octets}
 use Rattle.paper.specs.Messages.{begin_tag, continue_tag, end_tag, uni_tag}

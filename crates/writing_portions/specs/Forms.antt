@@ -7,7 +7,6 @@ use Prim.Native.Nat.{ℕ, ◌+◌, ◌≤◌}
 use Rattle.std.proofs.Math.ListN.{length-append}
 use Rattle.laws.specs.If.{if_lt, if_eq, eq, ne, by-eq}
 use Rattle.paper.specs.declared.PduKind.{PduKind}
-use Rattle.paper.specs.declared.PduKind.TheVariants as PduKind
 use Rattle.paper.specs.Refusals.{pdu_number}
 use Rattle.paper.specs.Writing.{length_octets, tlv}
 use Rattle.paper.specs.Portions.{Form, structured, unstructured, aarq, aare, abrt, audt, piece_octets, pieces_octets}

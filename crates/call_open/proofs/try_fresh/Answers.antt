@@ -1,4 +1,3 @@
-use Rattle.std.specs.Prelude.{Result}
 use mathlib.Core.Path.{refl}
 use Rattle.call_entry.specs.Replies.{Ends, only, passed_up, above-zero}
 use Rattle.paper.specs.Outcome.{fresh_outcome}

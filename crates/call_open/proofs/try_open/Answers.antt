@@ -1,17 +1,15 @@
-use Rattle.std.specs.Prelude.{Result}
 use Rattle.table_places.specs.Storing.{with_waiting}
 use Rattle.paper.specs.Layout.{encode, view}
 use Rattle.paper.specs.Calls.{with_place}
 use Rattle.paper.specs.Calls.Call.{Open}
 use Rattle.paper.specs.Outcome.{outcome}
 use Rattle.call_entry.specs.Replies.{Ends, only, passed_up, above-zero}
-use Rattle.call_open.specs.Opened.{open-refused, open_no, open-there, open-storing, open_done}
+use Rattle.call_open.specs.Opened.{open-refused, open_no, open-storing, open_done}
 use Rattle.table_places.specs.Storing.{Storing}
 use Rattle.paper.specs.declared.Control.{Control}
 use Rattle.paper.specs.declared.Refusal.{Refusal}
 use mathlib.Core.List.{[]}
 use mathlib.Core.Path.{refl, sym, ap, subst, ◌∙◌}
-use native.Mathlib.Omega.{arith}
 use Rattle.call_open.proofs.try_open.Goals as goal
 
 pub returns-in_err-may : goal.returns-in_err-may

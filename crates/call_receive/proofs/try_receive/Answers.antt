@@ -1,7 +1,6 @@
 use native.Mathlib.Omega.{arith}
 use mathlib.Core.Path.{refl}
 use Rattle.std.proofs.Common.{rules}
-use Rattle.std.specs.Prelude.{Result}
 use Rattle.paper.specs.Calls.Call.{Receive}
 use Rattle.paper.specs.Outcome.{Lent, outcome}
 use Rattle.paper.specs.declared.Refusal.{Refusal}

@@ -1,6 +1,4 @@
-use mathlib.Core.Path.{refl, sym, ap, ◌∙◌}
-use native.Mathlib.Omega.{arith}
-use Rattle.paper.specs.declared.Control.{Control}
+use mathlib.Core.Path.{refl, sym, ap}
 use Rattle.paper.specs.Portions.{portion_by}
 use Rattle.paper.specs.Dialogues.{Place, portion_refusal}
 use Rattle.paper.specs.Calls.{place_at}

@@ -1,5 +1,4 @@
-use mathlib.Core.Path.{refl, sym, ◌∙◌}
-use native.Mathlib.Omega.{arith}
+use mathlib.Core.Path.{refl}
 use Rattle.laws.specs.Runs.{wrote_as}
 use Rattle.paper.specs.Dialogues.{Place, freed, does, refusal, abort_message}
 use Rattle.paper.specs.Dialogues.Request.{Abort}

@@ -1,4 +1,4 @@
-use mathlib.Core.Path.{refl, sym, ◌∙◌}
+use mathlib.Core.Path.{refl, sym}
 use native.Mathlib.Omega.{arith}
 use lib.ListN.{length, take, length-take}
 use Prim.Native.Nat.{ℕ, ◌≤◌}

@@ -1,7 +1,6 @@
 use native.Mathlib.Omega.{arith}
 use mathlib.Core.Path.{sym, ◌∙◌}
 use borrow.Author.Tests.{eqb-true, eqb-false}
-use lib.ListN.{length}
 use Rattle.paper.specs.Dialogues.{Place}
 use Rattle.paper.specs.Calls.{place_at}
 use Rattle.paper.specs.Layout.{view}

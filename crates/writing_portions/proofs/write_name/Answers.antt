@@ -8,7 +8,6 @@ use Rattle.laws.specs.If.{true-false}
 use Rattle.laws.specs.Runs.{wrote_as, wrote-more}
 use Rattle.paper.specs.contracts.PduKind.{the_type}
 use Rattle.paper.specs.declared.PduKind.{PduKind}
-use Rattle.paper.specs.declared.PduKind.TheVariants as PduKind
 use Rattle.paper.specs.Refusals.{pdu_number}
 use Rattle.writing_octets.specs.Lengths.{element-of, element-small}
 use Rattle.writing_portions.specs.Forms.{some-named}
