@@ -5,6 +5,7 @@ ghost use Rattle.std.specs.Prelude.{◌≡◌};
 ghost use Rattle.paper.specs.Refusals.{number, pdu_number};
 
 // A length as it is coded: none of the four forms; (where the contents begin, how many octets); 80 (where they begin).
+// Stays: Wrong is one of three cases that the definition length_at (specs/Elements) gives; an Option round the other two would be no plainer.
 #[derive(Clone, Copy)]
 pub enum Length {
     Wrong,
@@ -13,6 +14,7 @@ pub enum Length {
 }
 
 // The tag and length of an element: malformed; a primitive (its end); a constructor (contents from, to); one of length 80 (from).
+// Stays: Bad is one of four cases that the definition head_at (specs/Elements) gives; an Option round the others would be no plainer.
 #[derive(Clone, Copy)]
 pub enum Head {
     Bad,
@@ -25,6 +27,7 @@ pub enum Head {
 pub type Reading = Result<usize, usize>;
 
 // The frame of an element: its contents from, to, and where it stops; stop is 0 where there is no frame.
+// Stays: 0 for none is what the definition frame_at (specs/Elements) gives, and all that is defined over a frame reads.
 #[derive(Clone, Copy)]
 pub struct Frame {
     pub from: usize,
@@ -42,6 +45,7 @@ impl Frame {
 
 // A component as it is read. IDs are octets, 256 none. fault: 3 sound, else the general problem code 0 to 2.
 // stop: where it ends, 0 without a frame. The parameter lies from par to parstop, 0 and 0 for none.
+// Stays: 256, 65,535 and 3 for none are what the definition component_at (specs/Components) gives; they go into a row, which a C host reads.
 #[derive(Clone, Copy)]
 pub struct Component {
     pub tag: u8,
@@ -70,6 +74,7 @@ impl Run {
 
 // A message as it is read. fault: 255 sound, 254 dropped for its form, else the P-Abort cause 0 or 2.
 // The components stand from `from` to `to`, 0 and 0 without a 6C. cause: that of a 4A, 65,535 none.
+// Stays: these numbers are what the definition message_of (specs/Messages) gives; the cause goes into a row and into an Abort.
 #[derive(Clone, Copy)]
 pub struct Message {
     pub tag: u8,
@@ -84,6 +89,7 @@ pub struct Message {
 
 // A dialogue PDU (02 a) as far as its pieces are read: where the next one begins, 0 where one was wrong; the runs of its context name and
 // of its user information; result, diagnostic and abort source as numbers of a row, 65,535 none.
+// Stays: 0 and 65,535 for none are what the definition piece (specs/Portions) gives; the latter go into a row, which a C host reads.
 #[derive(Clone, Copy)]
 pub struct Pdu {
     pub at: usize,
@@ -107,6 +113,7 @@ pub enum Portion {
 }
 
 // An invocation: state 0 Idle, 1 Pending, 2 Sent, 3 Wait, 4 Rejecting; shown: 1 after a result not last was shown.
+// Stays: its state, class and mark are numbers in the table's octets (specs/Layout, invocation_by), and the table rules judge other numbers too.
 #[derive(Clone, Copy)]
 pub struct Invocation {
     pub id: u8,
@@ -116,6 +123,7 @@ pub struct Invocation {
 }
 
 // A waiting reject: its invoke ID, 256 none; its problem as in a row.
+// Stays: 256 for none is what the definition reject_by (specs/Layout) reads from the table's octets and reject_octets writes.
 #[derive(Clone, Copy)]
 pub struct Reject {
     pub id: u32,
@@ -123,6 +131,8 @@ pub struct Reject {
 }
 
 // What a place holds beside its waiting octets. state: 0 free, 1 Open, 2 Sent, 3 Received, 4 Active.
+// Stays: its state is a number in the table's octets, and the table rules judge other numbers too (specs/Rules); the peer's ID and the rejects
+// have their length beside them as in the table, whose memory is fixed (specs/Layout, control_by).
 #[derive(Clone, Copy)]
 pub struct Control {
     pub turn: u32,
@@ -136,6 +146,7 @@ pub struct Control {
 }
 
 // A row: eight numbers.
+// Stays: a C host reads the eight numbers.
 #[derive(Clone, Copy)]
 pub struct Row {
     pub kind: u32,
@@ -370,15 +381,6 @@ pub const WAITING: usize = REJECTS + 2 * MOST_REJECTS;
 pub const PLACE_OCTETS: usize = WAITING + MOST_WAITING;
 
 pub const FIRST_WAITING: usize = PLACES + WAITING;
-
-// ---- THE DIALOGUE PDUS by their kind (02 a; specs/Portions has the same numbers), as in a row.
-pub const AARQ: u8 = 2;
-
-pub const AARE: u8 = 3;
-
-pub const ABRT: u8 = 4;
-
-pub const AUDT: u8 = 5;
 
 // ---- TAGS. specs/Messages: a message's type
 pub const UNI_TAG: u8 = 0x61;
