@@ -4,9 +4,10 @@
 ghost use Rattle.std.specs.Prelude.{true, ◌≡◌, ◌+◌, ◌-◌, ◌<◌, ◌≤◌, length, unwrap_or, IfSome};
 ghost use Rattle.reading_elements.specs.Bounds.{FrameIn};
 ghost use Rattle.paper.specs.Components.{no_id};
-ghost use Rattle.paper.specs.Portions.{Piece, aarq, aare, abrt, audt, forms};
+ghost use Rattle.paper.specs.Portions.{Piece, structured, unstructured, aarq, aare, abrt, audt, forms};
 ghost use Rattle.paper.specs.Portions.{tagged, only, stands_at, value_in, goes_to, with_diagnostic, piece, unread, all_pieces, external, in_form, read_by, portion_of};
 ghost use Rattle.paper.specs.Portions.{run_from, from_start, portion_at, eight, portion_row};
+ghost use Rattle.paper.specs.Writing.{tlv};
 ghost use Rattle.reading_portion.specs.Steps.{pdu_by};
 ghost use Rattle.reading_portion.specs.Bounds.{RunIn, PortionIn};
 
@@ -22,11 +23,6 @@ const NO_VALUE: u32 = 65535;
 const ABSENT: u32 = 0;
 
 const OPAQUE: u32 = 1;
-
-// The two object identifiers, each a whole 06 element: "00 11 86 05 01 01 01 (structured)", "and 00 11 86 05 01 02 01 (unstructured)".
-const STRUCTURED: [u8; 9] = [6, 7, 0, 0x11, 0x86, 5, 1, 1, 1];
-
-const UNSTRUCTURED: [u8; 9] = [6, 7, 0, 0x11, 0x86, 5, 1, 2, 1];
 
 // The element at p, if it is of that tag, with `left` depths to go.
 // Stays: a frame that is none is `Frame::NONE`, since `tagged` of paper/specs/Portions gives `no_frame`.
@@ -325,24 +321,43 @@ fn pdu_by(l: &[u8], x: Frame, identifier: &[u8], tag: u8) -> Frame
     only(l, DEPTHS_FROM_4, tag, a.to, a.from)
 }
 
+// "object identifiers 00 11 86 05 01 01 01 (structured)"
+fn structured(l: &[u8], x: Frame, tag: u8) -> Frame
+    requires { x.to ≤ length l.now }
+    ensures is { result ≡ pdu_by (tlv 6 structured) tag l.now x }
+    ensures within { result.to ≤ length l.now }
+{
+    pdu_by(l, x, &[6, 7, 0, 0x11, 0x86, 5, 1, 1, 1], tag)
+}
+
+// "and 00 11 86 05 01 02 01 (unstructured)"
+// Stays: each object identifier is held by its own clause, and by must-fail edits that name `structured` and `unstructured`.
+fn unstructured(l: &[u8], x: Frame, tag: u8) -> Frame
+    requires { x.to ≤ length l.now }
+    ensures is { result ≡ pdu_by (tlv 6 unstructured) tag l.now x }
+    ensures within { result.to ≤ length l.now }
+{
+    pdu_by(l, x, &[6, 7, 0, 0x11, 0x86, 5, 1, 2, 1], tag)
+}
+
 // By its form: the object identifier and the PDU's tag.
 fn by_form(l: &[u8]) -> Portion
     ensures { result ≡ read_by forms l.now }
 {
     let x = external(l);
-    let a = pdu_by(l, x, &STRUCTURED, 0x60);
+    let a = structured(l, x, 0x60);
     if a.stop != 0 {
         return request(l, a);
     }
-    let b = pdu_by(l, x, &STRUCTURED, 0x61);
+    let b = structured(l, x, 0x61);
     if b.stop != 0 {
         return response(l, b);
     }
-    let c = pdu_by(l, x, &STRUCTURED, 0x64);
+    let c = structured(l, x, 0x64);
     if c.stop != 0 {
         return abort(l, c);
     }
-    let d = pdu_by(l, x, &UNSTRUCTURED, 0x60);
+    let d = unstructured(l, x, 0x60);
     if d.stop != 0 {
         return unidirectional(l, d);
     }
