@@ -129,6 +129,7 @@ fn of_class4(c: Control, k: Component) -> bool
 }
 
 // Whether each of the components is.
+// Stays: a walk by positions, since a component says where the next one starts; an iterator of components would need a type of its own.
 fn each_class4(w: &[u8], c: Control) -> bool
     ensures { result ≡ every (of_class4 c) (components w.now (length w.now) 0) }
 {

@@ -189,6 +189,7 @@ pub fn element(s: &[u8], left: usize, lim: usize, at: usize) -> Reading
 }
 
 // "contents are if each of their elements is": a loop over the elements, so that only depth takes stack.
+// Stays: a walk by positions, since an element says where the next one starts.
 #[cycle(contents_element)]
 fn contents(s: &[u8], left: usize, indefinite: bool, lim: usize, outer: usize, at: usize) -> Reading
     requires { (at ≤ lim) × (lim ≤ length s.now) }

