@@ -19,6 +19,7 @@ use paper::{
 use reading_problems::Party;
 
 // Problems: the kind's 256 and a code. Of an invoke, that its linked ID is none of ours; the first of a result and of an error.
+// Stays: put together as `problem` of paper/specs/Problems does it.
 const UNRECOGNIZED_LINKED_ID: u32 = 256 + 5;
 
 const RESULT_PROBLEMS: u32 = 2 * 256;
@@ -27,6 +28,7 @@ const ERROR_PROBLEMS: u32 = 3 * 256;
 
 // What is told of a component: its row's kind and problem, and the slot of ours that changes, with what it then holds.
 // Where the kind is ROW_REJECTED, a reject waits besides.
+// Stays: kind and problem are numbers, as `acted` of paper/specs/Invocations takes them and a row has them.
 #[derive(Clone, Copy)]
 pub struct Told {
     pub kind: u32,
@@ -165,6 +167,7 @@ fn invoke(l: [Invocation; MOST_INVOCATIONS], linked: u32, kind: u32) -> Told
     ensures is { (room id : ℕ) (c : Control) → l ≡ c.invocations → kind ≡ stored_kind room c.count → does c id result ≡ invokes room c id linked }
     ensures waits { result.kind ≡ row_rejected → kind ≡ row_rejected }
 {
+    // Stays: NO_ID for none, as `linked` of a Component has it.
     if linked == NO_ID || dialogue_invocations::state_of(l, linked) == SENT {
         stays(ROW_INVOKE, NO_PROBLEM)
     } else {
@@ -189,6 +192,7 @@ fn reject_kind(problem: u32) -> u32
     ensures is { result ≡ reject_kind problem }
     ensures low { result < row_rejected }
 {
+    // Stays: taken apart as `sender_of_problem` of paper/specs/Problems does it.
     match reading_problems::sender(problem / 256, problem % 256) {
         Some(Party::User) => ROW_USER_REJECT,
         _ => ROW_REMOTE_REJECT,
@@ -222,6 +226,7 @@ fn fault(l: [Invocation; MOST_INVOCATIONS], p: Component, kind: u32) -> Told
 {
     let code = u32::from(p.fault);
     if p.tag == REJECT_TAG {
+        // Stays: NO_PROBLEM for none, as `problem` of a Component has it.
         if p.problem == NO_PROBLEM {
             return stays(ROW_NOT_STORED, code);
         }

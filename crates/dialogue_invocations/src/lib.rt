@@ -1,4 +1,5 @@
 // A dialogue's eight invocations: looked up, changed, transmitted (01, "Invocation states").
+// Stays: the eight are the array that a Control has; a struct with these as methods would be put on and taken off at each Control.
 #![tactic(auto)]
 
 ghost use Rattle.std.specs.Prelude.{true, ◌≡◌, ℕ, ◌+◌, ◌<◌, ◌≤◌, [], map, length, get_or, unwrap_or};
@@ -24,6 +25,7 @@ fn is_idle(v: Invocation) -> bool
 }
 
 // In use, with that ID.
+// Stays: an ID to look for is a number, as the definition is_open takes it: that of a component may be NO_ID.
 #[tactic(auto, unfolding(paper::specs::Invocations::is_open, laws::specs::If::if_eq))]
 fn is_open(id: u32, v: Invocation) -> bool
     ensures { result ≡ is_open id v }
@@ -112,6 +114,7 @@ pub fn release(c: Control, id: u32) -> Control
 }
 
 // Whether the user may reject with a problem of that kind.
+// Stays: a kind is a number, as `may_reject` of paper/specs/Invocations takes it.
 #[tactic(auto, unfolding(paper::specs::Invocations::may_reject, laws::specs::If::if_eq))]
 pub fn may_reject(kind: u32, v: Invocation) -> bool
     ensures { result ≡ may_reject kind v }

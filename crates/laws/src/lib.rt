@@ -4,6 +4,7 @@
 ghost use Rattle.std.specs.Prelude.{◌≡◌, ◌<◌, ◌%◌};
 
 // An octet as an index.
+// Stays: `usize::from` promises the value alone, and a function stays whose promise no other states: here that it is below 256 too.
 pub fn wide(x: u8) -> usize
     ensures { (result ≡ x) × (result < 256) }
 {
@@ -11,6 +12,7 @@ pub fn wide(x: u8) -> usize
 }
 
 // An octet as a number of 32 bits.
+// Stays: as for `wide`: `u32::from` promises the value alone.
 pub fn number(x: u8) -> u32
     ensures { (result ≡ x) × (result < 256) }
 {

@@ -59,6 +59,7 @@ pub struct Component {
 }
 
 // A run of octets of a message; length 0 for none.
+// Stays: 0 for none is what the definition no_run (specs/Messages) gives; a row has its start and length, which a C host reads.
 #[derive(Clone, Copy)]
 pub struct Run {
     pub start: usize,
@@ -102,6 +103,7 @@ pub struct Pdu {
 
 // A dialogue portion as it is read (02 a): none; one of another form; dialogue request (name, information); response (name, information,
 // result, diagnostic); abort (source, information); unidirectional (name, information).
+// Stays: none is one of six cases that the definition portion_of (specs/Portions) gives, each with a number in a row.
 #[derive(Clone, Copy)]
 pub enum Portion {
     Absent,
@@ -160,6 +162,7 @@ pub struct Row {
 }
 
 // What a component does: the control record after it, its row's kind and problem.
+// Stays: kind and problem are numbers of a row, as the definition acted (specs/Invocations) has them.
 #[derive(Clone, Copy)]
 pub struct Acted {
     pub control: Control,
@@ -250,6 +253,7 @@ impl From<PduKind> for u32 {
 pub const PLACES_IN_ALL: usize = 128;
 
 // as the size of a resource, a number of 32 bits
+// Stays: `as`, since no `From` makes a u32 of a usize, and a constant calls no function of a trait.
 pub const PLACES_SHARED: u32 = PLACES_IN_ALL as u32;
 
 pub const SERVICES: usize = 16;
@@ -289,6 +293,7 @@ pub const NO_ID: u32 = 256;
 pub const NO_FAULT: u8 = 3;
 
 // specs/Dialogues: a dialogue's states
+// Stays: numbers, as an octet of the table has them.
 pub const DIALOGUE_FREE: u8 = 0;
 
 pub const DIALOGUE_OPEN: u8 = 1;
@@ -300,6 +305,7 @@ pub const DIALOGUE_RECEIVED: u8 = 3;
 pub const DIALOGUE_ACTIVE: u8 = 4;
 
 // specs/Invocations: an invocation's states
+// Stays: numbers, as three bits of the table's octets have them.
 pub const IDLE: u8 = 0;
 
 pub const PENDING: u8 = 1;
@@ -316,6 +322,7 @@ pub const IS_SOUND: u8 = 255;
 pub const IS_DROPPED: u8 = 254;
 
 // specs/Kinds: the kinds of rows
+// Stays: numbers, which a C host reads in a row.
 pub const ROW_UNI: u32 = 1;
 
 pub const ROW_BEGIN: u32 = 2;
@@ -383,6 +390,7 @@ pub const PLACE_OCTETS: usize = WAITING + MOST_WAITING;
 pub const FIRST_WAITING: usize = PLACES + WAITING;
 
 // ---- TAGS. specs/Messages: a message's type
+// Stays: octets of the message itself, of which any other may come.
 pub const UNI_TAG: u8 = 0x61;
 
 pub const BEGIN_TAG: u8 = 0x62;

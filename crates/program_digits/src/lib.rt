@@ -1,4 +1,5 @@
 // Decimal and hex, printed and read: what is printed is read back, and what is read is printed again (specs/Back.antt).
+// Stays: a space and a place in it are two parameters, as in program_text, whose `Said` speaks of both.
 #![tactic(auto)]
 
 ghost use Rattle.std.specs.Prelude.{◌+◌, ◌*◌, ◌<◌, ◌≤◌, min, ◌≡◌, true, List, [], ◌∷◌, length, IfSome};
@@ -10,6 +11,7 @@ ghost use Rattle.program_digits.specs.Digits.{decimal as digits_decimal, dialogu
 use program_text::{put, word};
 
 // The digit of an octet, a letter in either case; none of any other.
+// Stays: a char's `to_digit` gives a u32, of which an octet would have to be made again: no plainer.
 pub fn digit_of(x: u8) -> Option<u8>
     ensures value { result ≡ hex_digit x }
     ensures below { IfSome result (λ d. d < 16) }
@@ -56,6 +58,7 @@ pub fn octet(out: &mut [u8], at: usize, x: u8) -> usize
 }
 
 // Octets in hex capitals, `-` for none.
+// Stays: its loop is that of program_text's `word` but for what it writes of an octet; over a closure with a law it would be no shorter.
 pub fn octets(out: &mut [u8], at: usize, s: &[u8]) -> usize
     requires { at ≤ length out.old }
     ensures { Said out.old at (or_none (hex s.now)) result out.new }
@@ -127,6 +130,7 @@ pub fn read_dialogue(s: &[u8]) -> Option<u32>
 }
 
 // The octet of -n, n from 1 to 128.
+// Stays: this and `positive` are two definitions (specs/Digits); `as`, since the ranges say that the number fits.
 fn negative(n: u32) -> Option<u8>
     ensures { result ≡ digits_negative (Some n) }
 {
@@ -166,6 +170,7 @@ fn is_hex(s: &[u8]) -> bool
 }
 
 // Each octet in the place of the digits, from their start.
+// Stays: by index, since octets are put over the digits that they are read from; an iterator would hold those borrowed.
 fn decode(s: &mut [u8])
     requires { is_hex s.old ≡ true }
     ensures { s.new ≡ sets s.old 0 (digits_octets s.old) }

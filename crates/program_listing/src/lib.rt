@@ -1,4 +1,5 @@
 // What a call or a reader gives, as text: a message, a row, a component.
+// Stays: a space and a place in it are two parameters, as in program_text; `as`, since no `From` goes from u32 to usize, or from usize to u64.
 #![tactic(auto)]
 
 ghost use Rattle.std.specs.Prelude.{◌<◌, ◌≤◌, ◌≡◌, length, take};
@@ -21,6 +22,7 @@ pub fn message(out: &mut [u8], at: usize, space: &[u8], count: u32) -> usize
 }
 
 // The number of four octets at a place of the row space, least significant first; 0 past its end.
+// Stays: 0 past its end, as the definition number_at (specs/Rows) gives it.
 pub fn number_at(rows: &[u8], at: usize) -> u32
     ensures { result ≡ number_at rows.now at }
 {

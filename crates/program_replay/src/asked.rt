@@ -49,10 +49,12 @@ pub fn octets_and_run(line: &mut [u8]) -> Option<(Field, usize, usize)> {
     let start = number(line, 2)?;
     let length = number(line, 3)?;
     let m = octets(line, 1)?;
+    // Stays: `as`, since no `From` makes a usize of a u32.
     Some((m, start as usize, length as usize))
 }
 
 // A linked ID, `-` for none: 256.
+// Stays: 256 for none, as call_pass's Passing has it.
 pub fn linked(s: &[u8]) -> Option<u32>
     ensures { IfSome result (λ n. n ≤ 256) }
 {

@@ -1,4 +1,5 @@
 // A line of the input: a call, by its number of fields and its verb. `None`: a line that cannot be read.
+// Stays: the table, a service and a dialogue are parameters of their own, as in the calls, which are the C interface's.
 ghost use Rattle.std.specs.Prelude.{◌<◌, ◌≤◌};
 ghost use Rattle.call_pass.specs.Passings.{linked_of};
 

@@ -1,8 +1,10 @@
 // What a call gives, as lines of text (vectors/README.md).
+// Stays: a space and a place in it are two parameters, as in program_text; `as`, since no `From` goes from u32 to usize, or from usize to u64.
 ghost use Rattle.std.specs.Prelude.{◌≤◌, length};
 
 use call_entry::Reply;
 
+// Stays: an answer is a number of Reply, which is the C interface's.
 fn opened(out: &mut [u8], at: usize, r: Reply, opens: bool) -> usize
     ensures { result ≤ length out.new }
 {

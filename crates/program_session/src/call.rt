@@ -14,6 +14,7 @@ pub struct Played {
 }
 
 // With the dialogue: "- none, refused or UNI".
+// Stays: an answer is a number of Reply, which is the C interface's.
 fn about(reply: Reply, dialogue: Option<u32>) -> Played {
     Played {
         reply,

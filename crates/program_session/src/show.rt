@@ -1,4 +1,5 @@
 // What a line gave, as a line of text.
+// Stays: a space and a place in it are two parameters, as in program_text.
 ghost use Rattle.std.specs.Prelude.{◌≤◌, length};
 
 use crate::call::Played;
@@ -15,6 +16,7 @@ fn number(out: &mut [u8], at: usize, n: u64) -> usize
 }
 
 // The state octet of a dialogue's place (docs/TABLE.md), 0 where the place is free.
+// Stays: 0 for none, which is what a free place's octet is.
 fn state_at(table: &[u8], dialogue: u32) -> u8 {
     let [place, ..] = dialogue.to_be_bytes();
     let at = PLACES + PLACE_OCTETS * usize::from(place) + STATE;

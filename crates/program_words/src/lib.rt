@@ -6,6 +6,7 @@ ghost use Rattle.program_words.specs.Words.{up_to, word_of, field_of, count, cut
 ghost use Rattle.program_words.specs.Words.{past as words_past};
 
 // A part of a line, from `start` up to `stop`.
+// Stays: not a `Range<usize>`, which isn't Copy; and no slice, since the octets that a field gives are put in the line itself.
 #[derive(Clone, Copy)]
 pub struct Field {
     pub start: usize,
@@ -33,6 +34,7 @@ fn past(line: &[u8], separator: u8, from: usize) -> usize
 }
 
 // The word with k others before it, empty after the last one: where it lies.
+// Stays: no `split`, which would give the word's octets and not where it lies.
 pub fn nth(line: &[u8], separator: u8, k: usize) -> Field
     ensures { result ≡ field_of separator k line.now }
 {
@@ -71,6 +73,7 @@ pub fn part<'a>(line: &'a [u8], separator: u8, k: usize) -> &'a [u8]
 pub fn octets(line: &mut [u8], f: Field) -> Option<Field>
     ensures { (result ≡ octets_of f line.old) × (line.new ≡ with_octets f line.old) }
 {
+    // Stays: no `get_mut`, since these are the two tests of the definition octets_of (specs/Words), one after the other.
     if f.stop > line.len() || f.start > f.stop {
         return None;
     }

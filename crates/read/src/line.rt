@@ -16,6 +16,7 @@ enum Rest {
 }
 
 // A line so far: its number; how many octets it has, as many as their space for any more; a digit that waits for its second.
+// Stays: an array and its count, kept by `short`: a Vec would take the heap, and its failure to be told of.
 #[derive(Clone, Copy)]
 pub struct Line {
     number: u64,

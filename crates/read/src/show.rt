@@ -1,4 +1,5 @@
 // A message and its components as text: the numbers of a component as in a row (01, "Rows").
+// Stays: a space and a place in it are two parameters, as in program_text; `as` where a usize is printed, since no `From` makes a u64 of it.
 ghost use Rattle.std.specs.Prelude.{◌+◌, ◌<◌, ◌≤◌, length};
 ghost use Rattle.reading_messages.specs.Bounds.{MessageIn};
 

@@ -1,5 +1,6 @@
 // One component read at a position of the message (01, "Coding" and, for the faults, the end of "Invocation states").
 // t is its tag, id its invoke ID, x where it stops; e is where its contents, or those of a 30 in it, end.
+// Stays: octets, end and position are three parameters, as the definitions of paper/specs/Components take them; a struct would be opened in each clause.
 #![tactic(auto)]
 
 ghost use Rattle.std.specs.Prelude.{◌≡◌, ℕ, ◌+◌, ◌*◌, ◌-◌, ◌<◌, ◌≤◌, length, unwrap_or, IfSome};
@@ -193,6 +194,7 @@ fn problem_at(s: &[u8], e: usize, p: usize) -> Option<u32>
     let kind = u32::from(s[p]) - 0x80;
     let code = u32::from(s[p + 2]);
     reading_problems::sender(kind, code)?;
+    // Stays: put together as `problem` of paper/specs/Problems does it.
     Some(kind * 256 + code)
 }
 

@@ -1,4 +1,5 @@
 // Elements read (01, "Coding"): tag, length, element and contents, frame. Positions into one slice; lim is where the octets around end.
+// Stays: octets, limit and position are three parameters, as the definitions of paper/specs/Elements take them; a struct would be opened in each clause.
 #![tactic(auto)]
 
 ghost use Rattle.std.specs.Prelude.{true, false, ◌≡◌, ℕ, ◌+◌, ◌*◌, ◌-◌, ◌%◌, ◌<◌, ◌≤◌, length, unwrap_or, IfSome};
@@ -11,6 +12,7 @@ ghost use Rattle.reading_elements.specs.Nested.{frame_of, is_sound, Stands};
 use paper::{Frame, Head, Length, Reading};
 
 // An element that is well formed, by its frame; one that is not, by the frame that it has all the same; or no frame.
+// Stays: three cases, two with a frame, which `frame_of` and `is_sound` (specs/Nested) tell apart; an Option round a Result would be no plainer.
 #[derive(Clone, Copy)]
 pub enum Nesting {
     Sound(Frame),
@@ -19,6 +21,7 @@ pub enum Nesting {
 }
 
 // "Long tags have 1 to 4 further octets": past the last of them.
+// Stays: `position` over the octets from `at` on would need both ends clamped to them, and `at` added to its answer: no plainer.
 fn tag_more(s: &[u8], lim: usize, at: usize) -> Option<usize>
     requires { lim ≤ length s.now }
     ensures is { unwrap_or result 0 ≡ tag_more s.now lim 4 at }
@@ -95,6 +98,7 @@ fn any_head(s: &[u8], lim: usize, at: usize) -> Head
     let Some(p) = tag_end(s, lim, at) else {
         return Head::Bad;
     };
+    // Stays: the bit is taken as `constructor` of paper/specs/Elements takes it.
     let constructor = s[at] / 32 % 2 == 1;
     match length_at(s, lim, p) {
         Length::Wrong => Head::Bad,

@@ -1,4 +1,5 @@
 // A message read in order (01, "Coding" and "A received message").
+// Stays: the octets and what was seen of them are two parameters, as the definitions of paper/specs/Messages take them; five functions ask for a first octet.
 #![tactic(auto)]
 
 ghost use Rattle.std.specs.Prelude.{◌≡◌, ◌+◌, ◌-◌, ◌<◌, ◌≤◌, length};
@@ -110,6 +111,7 @@ fn past(r: Run, b: usize) -> usize
     requires { r.start + r.length < 18446744073709551616 }
     ensures { result ≡ past r b }
 {
+    // Stays: a run that is none has length 0, as `no_run` of paper/specs/Messages has it.
     if r.length == 0 { b } else { r.start + r.length }
 }
 
@@ -160,6 +162,7 @@ fn closes(s: &[u8], indefinite: bool, p: usize) -> bool
 
 // The octet at a position inside the message, 0 past its end: no tag is 0.
 // Stays: 0 for none, as `octet_at` of paper/specs/Messages gives it.
+// Stays: reading_components' tag_at is of another definition, with an end of its own; this crate doesn't stand on that one.
 #[tactic(auto, unfolding(paper::specs::Messages::octet_at, laws::specs::If::if_lt, laws::specs::If::if_eq, laws::specs::If::if_b))]
 fn octet_at(s: &[u8], p: usize) -> u8
     ensures is { result ≡ octet_at s.now p }
@@ -173,6 +176,7 @@ fn octet_at(s: &[u8], p: usize) -> u8
 fn components_by(s: &[u8], d: Seen, portion: Run, f: Frame) -> Message
     ensures { result ≡ components_by s.now d.indefinite (seen d) portion f }
 {
+    // Stays: a frame that is none has stop 0, as `no_frame` of paper/specs/Elements has it.
     if f.stop == 0 {
         return d.fault(2);
     }
@@ -258,6 +262,7 @@ fn in_order(s: &[u8], b: usize, d: Seen) -> Message
         BEGIN_TAG => d.origin,
         _ => d.destination,
     };
+    // Stays: a run that is none has length 0, as `no_run` of paper/specs/Messages has it.
     if id.length == 0 {
         return d.fault(2);
     }

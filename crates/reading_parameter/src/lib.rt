@@ -25,6 +25,7 @@ fn parameter_of(stop: usize, c: Component) -> Run
 }
 
 // Where the parameter of the component of `len` octets at `start` lies.
+// Stays: start and length are two numbers, as a C host hands them in and `parameter_at` of paper/specs/Readers takes them.
 #[tactic(auto, unfolding(paper::specs::Readers::parameter_at, laws::specs::If::if_lt, laws::specs::If::if_eq))]
 pub fn parameter_at(s: &[u8], start: usize, len: usize) -> Run
     ensures is { result ≡ parameter_at s.now start len }

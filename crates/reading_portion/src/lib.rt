@@ -1,4 +1,5 @@
 // A dialogue portion read (02 a; 004, 4.2.3). Positions into the portion's own octets l; e is where the octets around end.
+// Stays: octets, end and what is read so far are three parameters, as the definitions of paper/specs/Portions take them; a struct would be opened in each clause.
 #![tactic(auto)]
 
 ghost use Rattle.std.specs.Prelude.{true, ◌≡◌, ◌+◌, ◌-◌, ◌<◌, ◌≤◌, length, unwrap_or, IfSome};
@@ -20,6 +21,7 @@ use paper::{
 const NO_VALUE: u32 = 65535;
 
 // The kinds beside those of the four PDUs, as in a row.
+// Stays: numbers, as `portion_row` of paper/specs/Portions gives them to a row.
 const ABSENT: u32 = 0;
 
 const OPAQUE: u32 = 1;
@@ -341,6 +343,7 @@ fn unstructured(l: &[u8], x: Frame, tag: u8) -> Frame
 }
 
 // By its form: the object identifier and the PDU's tag.
+// Stays: `stop` is 0 where there is no frame, as `no_frame` has it; the four differ in their reader, so a walk over them would take closures.
 fn by_form(l: &[u8]) -> Portion
     ensures { result ≡ read_by forms l.now }
 {
@@ -385,6 +388,7 @@ fn run_from(k: usize, r: Run) -> Run
     requires { k + r.start ≤ 0xFFFFFFFF }
     ensures { result ≡ run_from k r }
 {
+    // Stays: a run that is none has length 0, as `no_run` of paper/specs/Messages has it.
     if r.length == 0 {
         return Run::NONE;
     }
@@ -410,6 +414,7 @@ fn from_start(k: usize, p: Portion) -> Portion
 }
 
 // The portion at a run of a message, as a row gives it: a run that reaches further is none.
+// Stays: start and length are two numbers, as a C host hands them in and `portion_at` of paper/specs/Portions takes them.
 #[tactic(auto, unfolding(paper::specs::Portions::portion_at, laws::specs::If::if_lt, laws::specs::If::if_eq))]
 pub fn portion_at(s: &[u8], start: usize, len: usize) -> Portion
     ensures is { result ≡ portion_at s.now start len }
@@ -429,6 +434,7 @@ pub fn portion_at(s: &[u8], start: usize, len: usize) -> Portion
 }
 
 // The eight numbers of a row, of a portion's kind and parts.
+// Stays: `as`, since no `From` makes a u32 of a usize; the clause says that each fits.
 fn row(kind: u32, n: Run, i: Run, res: u32, diagnostic: u32, source: u32) -> Row
     requires { RunIn 0xFFFFFFFF n × RunIn 0xFFFFFFFF i }
     ensures { result ≡ eight kind n i res diagnostic source }

@@ -27,6 +27,7 @@ const SENDERS: [[u8; 8]; 4] = [
     [LAYER, LAYER, USER, USER, USER, NOBODY, NOBODY, NOBODY],
 ];
 
+// Stays: kind and code are numbers, as `sender_of` of paper/specs/Problems takes them; `as`, since no `From` makes a usize of a u32.
 #[tactic(auto, unfolding(paper::specs::Problems::sender_of, laws::specs::If::if_lt, laws::specs::If::if_eq))]
 pub fn sender(kind: u32, code: u32) -> Option<Party>
     ensures { party_number result ≡ sender_of kind code }

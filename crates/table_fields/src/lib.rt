@@ -69,6 +69,7 @@ pub fn rejects_waiting(rec: &[u8; PLACE_OCTETS]) -> u8
     rec[REJECTS_WAITING]
 }
 
+// Stays: the octet is taken apart as `invocation_by` of paper/specs/Layout does it.
 pub fn invocation_by(id: u8, o: u8) -> Invocation
     ensures { result ≡ invocation_by id o }
 {
@@ -95,6 +96,7 @@ pub fn invocations(rec: &[u8; PLACE_OCTETS]) -> [Invocation; MOST_INVOCATIONS]
     array::from_fn(|i| invocation_at(rec, i))
 }
 
+// Stays: the octet is taken apart, and the problem put together, as `reject_by` of paper/specs/Layout does it.
 pub fn reject_by(id: u8, o: u8) -> Reject
     ensures { result ≡ reject_by id o }
 {
@@ -107,6 +109,7 @@ pub fn reject_by(id: u8, o: u8) -> Reject
 }
 
 // Reject i of the eight.
+// Stays: this and invocation_at differ in where they stand and in what two octets make; one for both would take the two as parameters, with a law.
 pub fn reject_at(rec: &[u8; PLACE_OCTETS], i: usize) -> Reject
     requires { i < most_rejects }
     ensures { result ≡ reject_by (get_or rec.now (first_reject + 2 * i) 0) (get_or rec.now (first_reject + 2 * i + 1) 0) }

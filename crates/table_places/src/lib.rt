@@ -19,6 +19,7 @@ use paper::{
 };
 
 // What stands where no invocation and no reject is.
+// Stays: dialogue_invocations has this constant too; to share it, this crate and those above it would stand on that one for a line.
 const NO_INVOCATION: Invocation = Invocation {
     id: 0,
     class: 0,
@@ -29,6 +30,7 @@ const NO_INVOCATION: Invocation = Invocation {
 const NO_REJECT: Reject = Reject { id: 0, problem: 0 };
 
 // Stays: the table is a slice with its length in the clauses, as the C interface lends it; Ready, which the calls keep, has the length too.
+// Stays: the table and a place's number are two parameters, as `place_at` and `with_place` of paper/specs/Calls take them.
 // ---- LOADED
 // The control record of place p.
 pub fn load(t: &[u8], p: usize) -> Control
@@ -59,6 +61,7 @@ pub fn id_at(t: &[u8], p: usize) -> u32
     requires { (p < places_in_all) × (length t.now ≡ table_size) }
     ensures { result ≡ local_id p (place_at (view t.now) p).control.turn }
 {
+    // Stays: put together as `local_id` of paper/specs/Sizes does it; `as`, since no `From` makes a u32 of a usize.
     (p as u32) * TURNS + turn_at(t, p)
 }
 
@@ -94,6 +97,7 @@ pub fn owner(t: &[u8], service: u32, dialogue: u32) -> bool
     requires { length t.now ≡ table_size }
     ensures { result ≡ owns (view t.now) service dialogue }
 {
+    // Stays: taken apart as `place_of` and `turn_of` of paper/specs/Sizes do it; `as`, since no `From` makes a usize of a u32.
     let p = (dialogue / TURNS) as usize;
     p < PLACES_IN_ALL && is_dialogue(table_fields::slot(t, p), service, dialogue % TURNS)
 }
@@ -144,6 +148,7 @@ fn head_octets(c: Control, n: u8) -> [u8; 12]
     ]
 }
 
+// Stays: put together as `made_invocation` (specs/Made) does it.
 fn invocation_mark(v: Invocation) -> u8
     ensures { result ≡ made_invocation v }
 {
@@ -162,6 +167,7 @@ fn invocation_octets(l: [Invocation; MOST_INVOCATIONS]) -> [u8; 2 * MOST_INVOCAT
     o
 }
 
+// Stays: put together as `made_reject` (specs/Made) does it; `as`, since the number is below 256 and no `From` makes an octet of it.
 fn reject_mark(r: Reject) -> u8
     ensures { result ≡ made_reject r }
 {

@@ -1,5 +1,6 @@
 // The table rules (01, "Answer numbers"): one pass over the 128 places, which counts them too, so that no call walks the table twice.
 // A run of zeros is an OR over all of it, which is quicker than leaving at the first octet that is not 0.
+// Stays: the table is a slice with its length in the clauses, as the C interface lends it; its size is judged here first (check).
 #![tactic(auto)]
 
 ghost use Rattle.std.specs.Prelude.{◌≡◌, false, ◌+◌, ◌*◌, ◌≤◌, ◌<◌, eqb, length, drop, get_or, unwrap_or};
@@ -98,6 +99,7 @@ fn is_open(v: Invocation, wanted: u8) -> bool
 }
 
 // "invoke IDs within a dialogue differ": no invocation from the i-th on is open with that ID. From the n-th on none is open.
+// Stays: a `for`: `all` would ask a proof that its closure may be called at each k of its run (CallableWhile), where the loop has k < n at hand.
 fn unused_from(rec: &[u8; PLACE_OCTETS], id: u8, i: usize, n: usize) -> bool
     requires { (i ≤ n) × IdleFrom n rec.now }
     ensures { result ≡ none_open id (invocations_from i rec.now) }
@@ -123,6 +125,7 @@ fn invocation_at_kept(rec: &[u8; PLACE_OCTETS], i: usize, n: usize) -> bool
 }
 
 // Each of the n first invocations; from the n-th on none is open.
+// Stays: a `for`, and one beside each_reject_kept's: `all`, or one function for both, would ask the same of its closure (CallableWhile: at each i).
 fn each_invocation_kept(rec: &[u8; PLACE_OCTETS], n: usize) -> bool
     requires { IdleFrom n rec.now }
     ensures { result ≡ invocations_kept (invocations_from 0 rec.now) }
@@ -152,8 +155,9 @@ fn invocations_kept(rec: &[u8; PLACE_OCTETS]) -> bool
 fn reject_kept(id: u8, o: u8) -> bool
     ensures { result ≡ reject_kept (reject_by id o) }
 {
-    let kind = laws::number(o / 8 % 16);
-    let code = laws::number(o % 8);
+    // Stays: taken apart as `reject_by` of paper/specs/Layout does it.
+    let kind = u32::from(o / 8 % 16);
+    let code = u32::from(o % 8);
     match reading_problems::sender(kind, code) {
         Some(Party::SubLayer) => o < 128 || id == 0 && kind == 0,
         Some(Party::User) => false,
@@ -177,6 +181,7 @@ fn reject_at_kept(rec: &[u8; PLACE_OCTETS], n: usize, i: usize) -> bool
 }
 
 // Each of the eight rejects, of which n wait.
+// Stays: a `for`, as each_invocation_kept: reject_at_kept asks for one of the eight.
 fn each_reject_kept(rec: &[u8; PLACE_OCTETS], n: usize) -> bool
     ensures { result ≡ rejects_kept n (rejects_from 0 rec.now) }
 {
@@ -313,6 +318,7 @@ fn is_free(t: &[u8], p: usize) -> bool
 }
 
 // The first place from p on that is not free or breaks a rule; 128 where there is none. A run of free places is the quickest to check.
+// Stays: a `for`, as each_invocation_kept: is_free asks for one of the 128.
 fn free_end(t: &[u8], p: usize) -> usize
     requires { (length t.now ≡ table_size) × (p ≤ places_in_all) }
     ensures { FreeRun t.now p result }
@@ -359,9 +365,10 @@ fn scan(t: &[u8]) -> Option<[u8; SERVICES]>
 fn total(counts: [u8; SERVICES]) -> u32
     ensures { (result ≡ sum (λ i. get_or counts i 0) services) × (result ≤ services * 256) }
 {
+    // Stays: `sum` would ask that the sum of each run of items fits (its clause `fits`), which the loop's invariant says in a line.
     let mut n: u32 = 0;
     for count in &counts {
-        n += laws::number(*count);
+        n += u32::from(*count);
     }
     n
 }

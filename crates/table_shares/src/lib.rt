@@ -64,6 +64,7 @@ fn fair(over: u32, sum: u32, unused: u32, size: u32, free: u32) -> bool
 // "shares as for 13; nobody above the limit; free places at least the sum of unused guarantees", and that sum: of a resource of that size of
 // which so much is free. What is over a limit, and of a limit over all there is, is added up too and judged at the end: a walk with no other
 // exit is one in which the compiler takes several services at a time.
+// Stays: guarantees and limits are two slices, as `shared` of paper takes them and C lends them; a range, since three lists are read at k: zipped twice, no plainer.
 pub fn shares_kept(
     guarantees: &[u8],
     limits: &[u8],
@@ -79,6 +80,7 @@ pub fn shares_kept(
     let mut over: u32 = 0;
     for k in 0..SERVICES {
         let share = share_at(guarantees, limits, k);
+        // Stays: as `u32::from`, which was tried, it leaves the walk without the fact that a count is below 256, by which its sums fit.
         let count = laws::number(counts[k]);
         sum += share.guarantee;
         unused += share.unused(count);

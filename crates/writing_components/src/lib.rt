@@ -1,4 +1,5 @@
 // The components written (01, "Coding"): into a lent space, at a position; each answers the position past it.
+// Stays: operation (or error) and parameter are two slices, as a C host lends them and the definitions of paper/specs/Writing take them.
 #![tactic(auto)]
 
 ghost use Rattle.std.specs.Prelude.{◌≡◌, ◌+◌, ◌-◌, ◌<◌, ◌≤◌, ◌∷◌, ◌++◌, length};
@@ -50,6 +51,7 @@ pub fn write_invoke(out: &mut [u8], at: usize, id: u8, linked: u32, op: &[u8], p
     ensures is { Wrote out.old at (invoke_octets id linked op.now par.now) result out.new }
     ensures within { result ≡ at + invoke_size linked op.now par.now }
 {
+    // Stays: `as`, since the clause and the test leave an octet; `try_from` would leave a case that isn't.
     if linked == NO_ID {
         write_plain(out, at, INVOKE_TAG, id, op, par)
     } else {
@@ -122,6 +124,7 @@ pub fn write_reject(out: &mut [u8], at: usize, id: u32, problem: u32) -> usize
     ensures is { Wrote out.old at (reject_octets id problem) result out.new }
     ensures within { result ≡ at + reject_size id }
 {
+    // Stays: a problem is a number of a row, taken apart as `kind_of` and `code_of` of paper/specs/Problems do.
     let tag = (0x80 + problem / 256) as u8;
     let code = (problem % 256) as u8;
     if id == NO_ID {

@@ -1,4 +1,5 @@
 // The messages written (01, "Coding"): into a lent space, at a position; each answers the position past it.
+// Stays: a peer's ID is a slice of at most 4 octets, as its clauses say: it has 1 to 4, so an array type doesn't say it, and `tlv` of paper takes any list.
 #![tactic(auto)]
 
 ghost use Rattle.std.specs.Prelude.{◌≡◌, ◌+◌, ◌<◌, ◌≤◌, [], ◌++◌, length};
@@ -34,6 +35,7 @@ fn write_id(out: &mut [u8], at: usize, tag: u8, id: &[u8]) -> usize
     ensures within { result ≡ at + 2 + length id.now }
 {
     let a = writing_octets::put(out, at, tag);
+    // Stays: `as`, since the clause says that it fits; `try_from` would leave a case that isn't.
     let b = writing_octets::put(out, a, id.len() as u8);
     writing_octets::copy_at(out, b, id)
 }

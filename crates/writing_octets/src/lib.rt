@@ -44,6 +44,7 @@ fn write_length(out: &mut [u8], at: usize, n: usize) -> usize
     requires { (n < 65536) × (at + length (length_octets n) ≤ length out.old) }
     ensures { Wrote out.old at (length_octets n) result out.new }
 {
+    // Stays: `as`, since each arm's range says that n fits; `try_from` would leave a case that isn't.
     match n {
         0..=127 => put(out, at, n as u8),
         128..=255 => {

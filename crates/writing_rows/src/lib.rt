@@ -1,4 +1,5 @@
 // Rows: eight numbers of four octets, least significant first (01, "Rows").
+// Stays: `as` where a position goes into a row, since no `From` makes a u32 of a usize; the clauses say that each is below 65,536.
 #![tactic(auto)]
 
 ghost use Rattle.std.specs.Prelude.{◌≡◌, ◌+◌, ◌*◌, ◌-◌, ◌<◌, ◌≤◌, length};
@@ -20,6 +21,7 @@ fn signed(octet: u32) -> u32
 }
 
 // Where a component from at to x starts: 0 without a frame.
+// Stays: 0 for none, as the definition start_of (paper/specs/Rows) gives it and a C host reads it.
 fn start_of(at: usize, x: usize) -> u32
     requires { at < 65536 }
     ensures { result ≡ start_of at x }
@@ -28,6 +30,7 @@ fn start_of(at: usize, x: usize) -> u32
 }
 
 // How many octets a component has: 0 without a frame.
+// Stays: 0 for none, as the definition extent_of (paper/specs/Rows) gives it and a C host reads it.
 fn extent_of(at: usize, x: usize) -> u32
     requires { x < 65536 }
     ensures { result ≡ extent_of at x }
@@ -89,6 +92,7 @@ pub fn cancel_row(me: u32, id: u8) -> Row
 pub fn octets(r: Row) -> [u8; 32]
     ensures { result ≡ row_octets r }
 {
+    // Stays: the eight are named one by one; a loop over runs of four would name them in an array just so.
     let mut o = [0; 32];
     o[0..4].copy_from_slice(&r.kind.to_le_bytes());
     o[4..8].copy_from_slice(&r.dialogue.to_le_bytes());
@@ -102,6 +106,7 @@ pub fn octets(r: Row) -> [u8; 32]
 }
 
 // Row k of a row space.
+// Stays: a row space is octets and a row a place in it, as the C interface lends it.
 pub fn write_row(rows: &mut [u8], k: usize, r: Row)
     requires { k * 32 + 32 ≤ length rows.old }
     ensures is { rows.new ≡ sets rows.old (k * 32) (row_octets r) }
