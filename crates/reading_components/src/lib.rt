@@ -1,6 +1,6 @@
 // One component read at a position of the message (01, "Coding" and, for the faults, the end of "Invocation states").
 // t is its tag, id its invoke ID, x where it stops; e is where its contents, or those of a 30 in it, end.
-// Stays: octets, end and position are three parameters, as the definitions of paper/specs/Components take them; a struct would be opened in each clause.
+// Stays: octets, tag, ID, ends and position are their own parameters, as the definitions of paper/specs/Components take them; a struct would be opened in each clause.
 #![tactic(auto)]
 
 ghost use Rattle.std.specs.Prelude.{◌≡◌, ℕ, ◌+◌, ◌*◌, ◌-◌, ◌<◌, ◌≤◌, length, unwrap_or, IfSome};

@@ -1,5 +1,5 @@
 // A dialogue portion read (02 a; 004, 4.2.3). Positions into the portion's own octets l; e is where the octets around end.
-// Stays: octets, end and what is read so far are three parameters, as the definitions of paper/specs/Portions take them; a struct would be opened in each clause.
+// Stays: octets, end or frame, and what is read so far are their own parameters, as the definitions of paper/specs/Portions take them; a struct would be opened in each clause.
 #![tactic(auto)]
 
 ghost use Rattle.std.specs.Prelude.{true, ◌≡◌, ◌+◌, ◌-◌, ◌<◌, ◌≤◌, length, unwrap_or, IfSome};

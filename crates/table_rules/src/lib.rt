@@ -197,6 +197,7 @@ fn each_reject_kept(rec: &[u8; PLACE_OCTETS], n: usize) -> bool
 fn rejects_kept(rec: &[u8; PLACE_OCTETS], n: usize) -> bool
     ensures { result ≡ rejects_kept n (rejects_from 0 rec.now) }
 {
+    // Stays: the quick way leaves first, as in invocations_kept; as one expression with `||` (tried) its proof takes the three tests apart once more.
     if n == 0 && table_map::word(rec, REJECTS) == 0 && table_map::word(rec, LAST_REJECTS) == 0 {
         return true;
     }
@@ -213,6 +214,7 @@ fn number_of(a: u8, b: u8, c: u8, d: u8) -> u64
 }
 
 // Whether the octets of a peer's ID past its n are 0: as one number, of which the n first are shifted out.
+// Stays: a peer's octets and how many they are stand apart in the table's octets, and `peer_kept` of paper/specs/Rules reads them apart.
 fn past_zero(peer: [u8; 4], n: u8) -> bool
     requires { n ≤ 4 }
     ensures { result ≡ zeros (drop n peer) }
