@@ -17,7 +17,7 @@ pub fn put(out: &mut [u8], at: usize, x: u8) -> usize
 }
 
 // Octets as they are.
-// Stays: an octet at a time, as Said goes, cut where the space ends; a copy of what fits would need three lengths compared first.
+// Stays: an octet at a time, as Said goes, cut where the space ends; a copy of what fits would need the room that is left measured first.
 pub fn word(out: &mut [u8], at: usize, s: &[u8]) -> usize
     requires { at ≤ length out.old }
     ensures { Said out.old at s.now result out.new }

@@ -64,7 +64,7 @@ pub fn bit_at(t: &[u8], p: usize) -> u8
 }
 
 // The bit of place p, which was clear, is set.
-// Stays: this and clear_bit are two promises (with_bit, without_bit) over one line each; what they share is where the bit stands.
+// Stays: this and clear_bit are two promises (with_bit, without_bit); what they share is where the bit stands.
 pub fn set_bit(t: &mut [u8], p: usize)
     requires { (p < places_in_all) × (map_size ≤ length t.old) × (map_bit t.old p ≡ 0) }
     ensures { t.new ≡ with_bit t.old p }
