@@ -197,7 +197,7 @@ fn each_reject_kept(rec: &[u8; PLACE_OCTETS], n: usize) -> bool
 fn rejects_kept(rec: &[u8; PLACE_OCTETS], n: usize) -> bool
     ensures { result ≡ rejects_kept n (rejects_from 0 rec.now) }
 {
-    // Stays: the quick way leaves first, as in invocations_kept; as one expression with `||` (tried) its proof takes the three tests apart once more.
+    // Stays: the quick way leaves first, as in invocations_kept; as one expression with `||` its proof would take the three tests apart once more.
     if n == 0 && table_map::word(rec, REJECTS) == 0 && table_map::word(rec, LAST_REJECTS) == 0 {
         return true;
     }
