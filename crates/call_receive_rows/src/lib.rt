@@ -61,6 +61,7 @@ fn step(
     }
 }
 
+// Stays: `least_rows ≤ length rows` is a clause: C lends rows of any length, which call_entry::enter tests once.
 // Row 0 is the dialogue's; room: how many rejects may wait (8, or 0 where none is stored).
 pub fn show(
     s: &[u8],

@@ -38,6 +38,7 @@ pub enum Sending {
     AUnidirectional,
 }
 
+// Stays: a match on the kind: closures in its place would be four, for this, `state_refusal`, `write_front` and `leave`, each with a law.
 // 02 a: the dialogue portion of each.
 fn portion_kind(k: Sending) -> PduKind
     ensures { result ≡ portion_kind k }
@@ -72,6 +73,7 @@ fn peer_refusal(state: u8) -> Result<(), Refusal>
     }
 }
 
+// Stays: a match on the kind, as in `portion_kind`.
 // Unidirectional is refused too with no component or with one not of class 4.
 fn state_refusal(t: &[u8], p: usize, c: Control, k: Sending) -> Result<(), Refusal>
     requires { Holds t.now p c }
@@ -85,6 +87,7 @@ fn state_refusal(t: &[u8], p: usize, c: Control, k: Sending) -> Result<(), Refus
     }
 }
 
+// Stays: table, place and record are three arguments, tied by Holds: a struct of them would borrow the table, which `leave` writes.
 // The state's refusal, else that of the name and user information given with a sending (02 a).
 fn refusal_with(
     t: &[u8],
@@ -159,6 +162,7 @@ fn write_rest(
     call_send_parts::write_sent(out, b, t, p, c, f.sent.fits)
 }
 
+// Stays: a match on the kind, as in `portion_kind`.
 // A message up to its IDs, where m octets follow them.
 fn write_front(out: &mut [u8], k: Sending, dialogue: u32, c: Control, m: usize) -> usize
     requires { FineControl c × (m ≤ 244) × (least_space ≤ length out.old) }
@@ -193,6 +197,7 @@ fn write_message(
     write_rest(out, a, t, p, c, kind, given, f)
 }
 
+// Stays: a match on the kind, as in `portion_kind`.
 // "Begin (to Sent) ..; Continue (to Active) and basic end (frees)"; "Unidirectional (frees)"; "An end drops what it didn't send."
 fn leave(t: &mut [u8], p: usize, c: Control, k: Sending, fits: bool)
     requires { Holds t.old p c × (0 ≡ state_refusal k (place_at (view t.old) p)) }
@@ -233,6 +238,7 @@ fn try_send(
     })
 }
 
+// Stays: the name and the information are two arguments here, as host and the programs hand them on.
 pub fn send(
     table: &mut [u8],
     service: u32,
