@@ -8,6 +8,7 @@ ghost use Rattle.call_entry.specs.Prologue.{spaces, Enters, Meets};
 
 use paper::{GUARANTEES, LEAST_ROWS, LEAST_SPACE, LIMITS, PLACES, Refusal, SERVICES, TURNS};
 
+// Stays: numbers, 0 where nothing is told: a C host reads them.
 // What the host is told (docs, "The interface to the C host"): at any answer but 0 the other three are 0.
 #[repr(C)]
 #[derive(Clone, Copy)]
@@ -138,6 +139,7 @@ pub fn enter_at(
     if !table_places::owner(t, service, dialogue) {
         return Err(Refusal::NoDialogue);
     }
+    // Stays: no function `place_of`: the record InDialogue has this quotient, and in call_receive_parts it was tried.
     let p = (dialogue / TURNS) as usize;
     Ok(p)
 }

@@ -93,6 +93,7 @@ pub fn is_information(l: &[u8]) -> bool
     l.is_empty() || is_block(l)
 }
 
+// Stays: `n ≤ most_waiting` stands in the clauses of each: n is what table_places::waiting_length promises of a usize, and is added to.
 // "waiting components .. over 240 octets": whether so many more go with the n that wait.
 #[tactic(auto, unfolding(laws::specs::If::if_lt))]
 pub fn over_by(n: usize, size: usize) -> Result<(), Refusal>
@@ -138,15 +139,22 @@ pub fn both_refusal(n: usize, op: &[u8], par: &[u8]) -> Result<(), Refusal>
     over_by(n, writing_components::result_size(op, par))
 }
 
+// A context name and user information, given with a sending (02 a); none of one is no octets.
+#[derive(Clone, Copy)]
+pub struct Given<'a> {
+    pub name: &'a [u8],
+    pub information: &'a [u8],
+}
+
 // "14, either given with continue or end in Active, or user information without a name" (02 a).
 #[tactic(auto, unfolding(paper::specs::Dialogues::unplaced, laws::specs::If::if_eq))]
-fn unplaced_by(state: u8, name: &[u8], information: &[u8]) -> Result<(), Refusal>
-    ensures { answer_of result ≡ unplaced state name.now information.now }
+fn unplaced_by(state: u8, given: Given) -> Result<(), Refusal>
+    ensures { answer_of result ≡ unplaced state given.entry.name.now given.entry.information.now }
 {
-    if name.is_empty() && !information.is_empty() {
+    if given.name.is_empty() && !given.information.is_empty() {
         return Err(Refusal::WrongPortion);
     }
-    if !name.is_empty() && state == DIALOGUE_ACTIVE {
+    if !given.name.is_empty() && state == DIALOGUE_ACTIVE {
         return Err(Refusal::WrongPortion);
     }
     Ok(())
@@ -154,56 +162,44 @@ fn unplaced_by(state: u8, name: &[u8], information: &[u8]) -> Result<(), Refusal
 
 // A name or information that is not one well-formed element of its kind (11).
 #[tactic(auto, unfolding(crate::specs::Portion::malformed, laws::specs::If::if_b))]
-fn malformed_by(name: &[u8], information: &[u8]) -> Result<(), Refusal>
-    ensures { answer_of result ≡ malformed name.now information.now }
+fn malformed_by(given: Given) -> Result<(), Refusal>
+    ensures { answer_of result ≡ malformed given.entry.name.now given.entry.information.now }
 {
-    if !is_name(name) || !is_information(information) {
+    if !is_name(given.name) || !is_information(given.information) {
         return Err(Refusal::WrongOctets);
     }
     Ok(())
 }
 
 // "The 240 octets .. count the portion too" (12), with any PDU but an ABRT.
-fn overfull_by(n: usize, kind: PduKind, name: &[u8], information: &[u8]) -> Result<(), Refusal>
+fn overfull_by(n: usize, kind: PduKind, given: Given) -> Result<(), Refusal>
     requires { (n ≤ most_waiting) × (kind ≡ Abort → ⊥) }
-    ensures { answer_of result ≡ over_by n (length (portion_by (form_for (pdu_number kind)) name.now information.now)) }
+    ensures { answer_of result ≡ over_by n (length (portion_by (form_for (pdu_number kind)) given.entry.name.now given.entry.information.now)) }
 {
-    if name.len() > MOST_WAITING || information.len() > MOST_WAITING {
+    if given.name.len() > MOST_WAITING || given.information.len() > MOST_WAITING {
         return Err(Refusal::TooLong);
     }
-    let size = writing_portions::portion_size(kind, name.len(), information.len());
+    let size = writing_portions::portion_size(kind, given.name.len(), given.information.len());
     over_by(n, size)
 }
 
 // Of a name and information of which one is given: "14 .. after 12", which is after 11.
-fn formed_refusal(
-    n: usize,
-    state: u8,
-    kind: PduKind,
-    name: &[u8],
-    information: &[u8],
-) -> Result<(), Refusal>
+fn formed_refusal(n: usize, state: u8, kind: PduKind, given: Given) -> Result<(), Refusal>
     requires { (n ≤ most_waiting) × (kind ≡ Abort → ⊥) }
-    ensures { answer_of result ≡ refusal_of n state (pdu_number kind) name.now information.now }
+    ensures { answer_of result ≡ refusal_of n state (pdu_number kind) given.entry.name.now given.entry.information.now }
 {
-    malformed_by(name, information)?;
-    overfull_by(n, kind, name, information)?;
-    unplaced_by(state, name, information)
+    malformed_by(given)?;
+    overfull_by(n, kind, given)?;
+    unplaced_by(state, given)
 }
 
 // Of a name and information where n octets wait: none given, none refused, by two tests.
-pub fn portion_refusal(
-    n: usize,
-    state: u8,
-    kind: PduKind,
-    name: &[u8],
-    information: &[u8],
-) -> Result<(), Refusal>
+pub fn portion_refusal(n: usize, state: u8, kind: PduKind, given: Given) -> Result<(), Refusal>
     requires { (n ≤ most_waiting) × (kind ≡ Abort → ⊥) }
-    ensures { answer_of result ≡ refusal_of n state (pdu_number kind) name.now information.now }
+    ensures { answer_of result ≡ refusal_of n state (pdu_number kind) given.entry.name.now given.entry.information.now }
 {
-    if name.is_empty() && information.is_empty() {
+    if given.name.is_empty() && given.information.is_empty() {
         return Ok(());
     }
-    formed_refusal(n, state, kind, name, information)
+    formed_refusal(n, state, kind, given)
 }

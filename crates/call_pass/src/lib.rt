@@ -23,6 +23,7 @@ use paper::{
 };
 use reading_problems::Party;
 
+// Stays: 256 for no linked ID, and a problem as one number, are what the definition of a Request (paper, specs/Dialogues) has.
 // WHAT IS PASSED, by its numbers. The operation or error, and the parameter, stand beside it as octets; a reject has neither.
 #[derive(Clone, Copy)]
 pub enum Passing {
@@ -44,6 +45,7 @@ fn front_of(linked: u32) -> usize
     if linked == NO_ID { 3 } else { 6 }
 }
 
+// Stays: `n ≤ most_waiting` stands in the clauses of each: n is what table_places::waiting_length promises of a usize, and is added to.
 fn invoke_refusal(
     l: [Invocation; MOST_INVOCATIONS],
     n: usize,
@@ -122,6 +124,8 @@ fn reject_refusal(
     call_given::over_by(n, 8)
 }
 
+// Stays: a match on what is passed: closures in its place would be three, for this, `acted` and `write`, each with a law of its own.
+// Stays: the operation or error and the parameter are two arguments, as call_given and writing_components take them and C lends them.
 fn refusal(
     state: u8,
     l: [Invocation; MOST_INVOCATIONS],
@@ -189,6 +193,7 @@ fn rejected_by(l: [Invocation; MOST_INVOCATIONS], id: u8, problem: u32) -> Slot
     }
 }
 
+// Stays: a match on what is passed, as in `refusal`.
 fn acted(l: [Invocation; MOST_INVOCATIONS], what: Passing) -> Slot
     requires { Acts l what }
     ensures { Leaves l result.at result.holds (invocations_after l what) }
@@ -202,6 +207,7 @@ fn acted(l: [Invocation; MOST_INVOCATIONS], what: Passing) -> Slot
 }
 
 // ---- WRITTEN after the n octets that wait, straight into the table
+// Stays: a match on what is passed, as in `refusal`.
 fn write(t: &mut [u8], at: usize, what: Passing, code: &[u8], par: &[u8]) -> usize
     requires { Writing code.now par.now t.old at what }
     ensures { Wrote t.old at (octets_of what code.now par.now) result t.new }
@@ -213,7 +219,10 @@ fn write(t: &mut [u8], at: usize, what: Passing, code: &[u8], par: &[u8]) -> usi
         Passing::AResult(tag, id) => writing_components::write_result(t, at, tag, id, code, par),
         Passing::AnError(id) => writing_components::write_error(t, at, id, code, par),
         Passing::AReject(id, problem) => writing_components::write_reject(
-            t, at, id as u32, problem,
+            t,
+            at,
+            u32::from(id),
+            problem,
         ),
     }
 }

@@ -62,6 +62,7 @@ fn peer_of(s: &[u8], id: Run) -> [u8; 4]
     ]
 }
 
+// Stays: the place is reckoned here and below: with a function `place_of` the proofs of six functions, as they are, didn't close.
 // "It is assigned when it is the four octets of this service's dialogue in Sent, Received or Active."
 fn assigned(t: &[u8], service: u32, s: &[u8], m: Message) -> bool
     requires { Ready t.now × Read s.now m }
@@ -76,6 +77,7 @@ fn assigned(t: &[u8], service: u32, s: &[u8], m: Message) -> bool
 }
 
 // ---- FAULTS
+// Stays: `least_rows ≤ length rows`, and for a space `least_space`, are clauses: C lends any length, which call_entry::enter tests once.
 // "free an assigned destination's place, with a P-ABORT row"
 fn faulted_at(t: &mut [u8], dialogue: u32, cause: u8, rows: &mut [u8])
     requires { Standing 0 t.old (place_of dialogue) × (least_rows ≤ length rows.old) }
@@ -88,6 +90,7 @@ fn faulted_at(t: &mut [u8], dialogue: u32, cause: u8, rows: &mut [u8])
     table_places::free_at(t, p);
 }
 
+// Stays: `Read s m` is a clause: it ties two arguments, a message's octets and what was read of them; `s` is what C lends.
 // "On a fault: originating ID not derivable, drop. Otherwise write Abort to it".
 fn faulted(
     t: &mut [u8],
@@ -135,6 +138,7 @@ fn components_shown(
     requires { Read s.now m × (room ≤ 8) × (least_rows ≤ length rows.old) }
     ensures { Shows me room control rows.old (items_of s.now m) result rows.new }
 {
+    // Stays: 0 where there is no 6C, as message_of (paper, specs/Messages) gives it.
     if m.from == 0 {
         return Shown { control, count: 0 };
     }
@@ -265,6 +269,7 @@ fn abort_row(me: u32, m: Message, n: usize) -> Row
     requires { (n < 65536) × RunIn n m.portion }
     ensures { result ≡ if_eq m.cause no_problem (dialogue_row row_user_abort me no_problem m.portion 0) (dialogue_row row_abort me m.cause no_run 0) }
 {
+    // Stays: NO_PROBLEM where there is no 4A, as message_of (paper, specs/Messages) gives it.
     if m.cause == NO_PROBLEM {
         writing_rows::dialogue_row(ROW_USER_ABORT, me, NO_PROBLEM, m.portion, 0)
     } else {

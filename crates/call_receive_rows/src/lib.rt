@@ -8,7 +8,7 @@ ghost use Rattle.paper.specs.declared.Control.{Control};
 ghost use Rattle.call_receive_rows.specs.Shows.{Steps, Next, Shows};
 
 use dialogue_acts::Told;
-use paper::{Component, Control, Invocation, NO_FAULT, Row};
+use paper::{Component, Control, Invocation, MOST_INVOCATIONS, NO_FAULT, Row};
 
 // One component: what is told of it, its ID and its row, and where the next one starts.
 #[derive(Clone, Copy)]
@@ -27,13 +27,11 @@ pub struct Shown {
 }
 
 // "Later components of the message are discarded": a fault ends the reading.
+#[tactic(auto, unfolding(paper::specs::Components::next_start, laws::specs::If::if_eq))]
 fn next_start(c: Component, lim: usize) -> usize
     ensures { result ≡ next_start lim c }
 {
-    if c.fault == NO_FAULT {
-        return c.stop;
-    }
-    lim
+    if c.fault == NO_FAULT { c.stop } else { lim }
 }
 
 // One component, on a dialogue with these invocations and so many waiting rejects.
@@ -41,7 +39,7 @@ fn step(
     s: &[u8],
     lim: usize,
     at: usize,
-    l: [Invocation; 8],
+    l: [Invocation; MOST_INVOCATIONS],
     count: u8,
     room: u8,
     me: u32,
@@ -63,6 +61,7 @@ fn step(
     }
 }
 
+// Stays: `least_rows ≤ length rows` is a clause: C lends rows of any length, which call_entry::enter tests once.
 // Row 0 is the dialogue's; room: how many rejects may wait (8, or 0 where none is stored).
 pub fn show(
     s: &[u8],
@@ -79,6 +78,7 @@ pub fn show(
     let mut c = control;
     let mut at = from;
     let mut k: usize = 1;
+    // Stays: a walk by positions, since a component says where the next one starts; the row it is shown in goes one up with each.
     loop {
         let l = c.invocations;
         let p = step(s, lim, at, l, c.count, room, me);

@@ -37,7 +37,7 @@ fn class_of(t: &[u8], p: usize, id: u8) -> u8
     ensures { result ≡ (invocation_of (place_at (view t.now) p).control.invocations id).class }
 {
     let c = table_places::load(t, p);
-    let v = dialogue_invocations::invocation_of(c.invocations, id as u32);
+    let v = dialogue_invocations::invocation_of(c.invocations, u32::from(id));
     v.class
 }
 

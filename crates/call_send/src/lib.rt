@@ -23,9 +23,10 @@ ghost use Rattle.call_send.specs.Sendings.{open_refusal, peer_refusal, abort_by,
 ghost use Rattle.call_send.specs.Messages.{Follows, rest, rest_size};
 
 use call_entry::{Effect, Reply, Spaces};
+use call_given::Given;
+use call_send_parts::Sent;
 use paper::{
-    Control, DIALOGUE_ACTIVE, DIALOGUE_OPEN, DIALOGUE_RECEIVED, DIALOGUE_SENT,
-    PduKind, Refusal,
+    Control, DIALOGUE_ACTIVE, DIALOGUE_OPEN, DIALOGUE_RECEIVED, DIALOGUE_SENT, PduKind, Refusal,
 };
 
 // The four messages that carry components.
@@ -37,6 +38,7 @@ pub enum Sending {
     AUnidirectional,
 }
 
+// Stays: a match on the kind: closures in its place would be four, for this, `state_refusal`, `write_front` and `leave`, each with a law.
 // 02 a: the dialogue portion of each.
 fn portion_kind(k: Sending) -> PduKind
     ensures { result ≡ portion_kind k }
@@ -71,6 +73,7 @@ fn peer_refusal(state: u8) -> Result<(), Refusal>
     }
 }
 
+// Stays: a match on the kind, as in `portion_kind`.
 // Unidirectional is refused too with no component or with one not of class 4.
 fn state_refusal(t: &[u8], p: usize, c: Control, k: Sending) -> Result<(), Refusal>
     requires { Holds t.now p c }
@@ -84,6 +87,7 @@ fn state_refusal(t: &[u8], p: usize, c: Control, k: Sending) -> Result<(), Refus
     }
 }
 
+// Stays: table, place and record are three arguments, tied by Holds: a struct of them would borrow the table, which `leave` writes.
 // The state's refusal, else that of the name and user information given with a sending (02 a).
 fn refusal_with(
     t: &[u8],
@@ -91,64 +95,51 @@ fn refusal_with(
     c: Control,
     k: Sending,
     kind: PduKind,
-    name: &[u8],
-    information: &[u8],
+    given: Given,
 ) -> Result<(), Refusal>
     requires { Holds t.now p c × (kind ≡ PduKind.Abort → ⊥) }
-    ensures { answer_of result ≡ first (state_refusal k (place_at (view t.now) p)) (portion_refusal (place_at (view t.now) p) (form_for (pdu_number kind)) name.now information.now) }
+    ensures { answer_of result ≡ first (state_refusal k (place_at (view t.now) p)) (portion_refusal (place_at (view t.now) p) (form_for (pdu_number kind)) given.entry.name.now given.entry.information.now) }
 {
     state_refusal(t, p, c, k)?;
     let n = table_places::waiting_length(t, p);
-    call_given::portion_refusal(n, c.state, kind, name, information)
+    call_given::portion_refusal(n, c.state, kind, given)
 }
 
-// What follows a message's IDs: the octets of its dialogue portion; whether the waiting rejects go; the octets of components.
+// What follows a message's IDs: the octets of its dialogue portion; what is sent.
 #[derive(Clone, Copy)]
 struct Follow {
     portion: usize,
-    fits: bool,
-    length: usize,
+    sent: Sent,
 }
 
-fn what_follows(t: &[u8], p: usize, c: Control, kind: PduKind, name: &[u8], information: &[u8]) -> Follow
-    requires { Holds t.now p c × (kind ≡ PduKind.Abort → ⊥) × (0 ≡ portion_refusal (place_at (view t.now) p) (form_for (pdu_number kind)) name.now information.now) }
-    ensures { Follows (place_at (view t.now) p) (pdu_number kind) name.now information.now result.portion result.fits result.length }
+fn what_follows(t: &[u8], p: usize, c: Control, kind: PduKind, given: Given) -> Follow
+    requires { Holds t.now p c × (kind ≡ PduKind.Abort → ⊥) × (0 ≡ portion_refusal (place_at (view t.now) p) (form_for (pdu_number kind)) given.name.now given.information.now) }
+    ensures { Follows (place_at (view t.now) p) (pdu_number kind) given.entry.name.now given.entry.information.now result.portion result.sent.fits result.sent.length }
 {
-    let q = writing_portions::portion_size(kind, name.len(), information.len());
-    let s = call_send_parts::sent_of(t, p, c, q);
-    Follow {
-        portion: q,
-        fits: s.fits,
-        length: s.length,
-    }
+    let portion = writing_portions::portion_size(kind, given.name.len(), given.information.len());
+    let sent = call_send_parts::sent_of(t, p, c, portion);
+    Follow { portion, sent }
 }
 
 // The octets after the IDs, the 6C's head counted.
 fn rest_size(f: Follow) -> usize
-    requires { f.portion + f.length ≤ most_waiting }
-    ensures { result ≡ rest_size f.portion f.length }
+    requires { f.portion + f.sent.length ≤ most_waiting }
+    ensures { result ≡ rest_size f.portion f.sent.length }
 {
-    let n = f.length;
+    let n = f.sent.length;
     let m = writing_messages::components_size(n);
     f.portion + m
 }
 
 // A dialogue portion of q octets: most messages have none, and pay one test for it.
-fn write_given(
-    out: &mut [u8],
-    at: usize,
-    kind: PduKind,
-    name: &[u8],
-    information: &[u8],
-    q: usize,
-) -> usize
-    requires { (length name.now ≤ most_waiting) × (length information.now ≤ most_waiting) × (q ≡ length (portion_by (form_for (pdu_number kind)) name.now information.now)) × Room out.old at q }
-    ensures { Wrote out.old at (portion_by (form_for (pdu_number kind)) name.now information.now) result out.new }
+fn write_given(out: &mut [u8], at: usize, kind: PduKind, given: Given, q: usize) -> usize
+    requires { (length given.name.now ≤ most_waiting) × (length given.information.now ≤ most_waiting) × (q ≡ length (portion_by (form_for (pdu_number kind)) given.name.now given.information.now)) × Room out.old at q }
+    ensures { Wrote out.old at (portion_by (form_for (pdu_number kind)) given.entry.name.now given.entry.information.now) result out.new }
 {
     if q == 0 {
         return at;
     }
-    writing_portions::write_portion(out, at, kind, name, information)
+    writing_portions::write_portion(out, at, kind, given.name, given.information)
 }
 
 // What follows the IDs of each of the four messages: its dialogue portion, the 6C's head, what is sent.
@@ -159,19 +150,19 @@ fn write_rest(
     p: usize,
     c: Control,
     kind: PduKind,
-    name: &[u8],
-    information: &[u8],
+    given: Given,
     f: Follow,
 ) -> usize
-    requires { Holds t.now p c × Follows (place_at (view t.now) p) (pdu_number kind) name.now information.now f.portion f.fits f.length × (at + rest_size f.portion f.length ≤ length out.old) }
-    ensures { Wrote out.old at (rest (portion_by (form_for (pdu_number kind)) name.now information.now) (sent_components (place_at (view t.now) p) f.fits)) result out.new }
+    requires { Holds t.now p c × Follows (place_at (view t.now) p) (pdu_number kind) given.name.now given.information.now f.portion f.sent.fits f.sent.length × (at + rest_size f.portion f.sent.length ≤ length out.old) }
+    ensures { Wrote out.old at (rest (portion_by (form_for (pdu_number kind)) given.entry.name.now given.entry.information.now) (sent_components (place_at (view t.now) p) f.sent.fits)) result out.new }
 {
-    let a = write_given(out, at, kind, name, information, f.portion);
-    let n = f.length;
+    let a = write_given(out, at, kind, given, f.portion);
+    let n = f.sent.length;
     let b = writing_messages::write_components(out, a, n);
-    call_send_parts::write_sent(out, b, t, p, c, f.fits)
+    call_send_parts::write_sent(out, b, t, p, c, f.sent.fits)
 }
 
+// Stays: a match on the kind, as in `portion_kind`.
 // A message up to its IDs, where m octets follow them.
 fn write_front(out: &mut [u8], k: Sending, dialogue: u32, c: Control, m: usize) -> usize
     requires { FineControl c × (m ≤ 244) × (least_space ≤ length out.old) }
@@ -194,19 +185,19 @@ fn write_message(
     k: Sending,
     kind: PduKind,
     dialogue: u32,
-    name: &[u8],
-    information: &[u8],
+    given: Given,
     f: Follow,
 ) -> usize
-    requires { Holds t.now p c × Follows (place_at (view t.now) p) (pdu_number kind) name.now information.now f.portion f.fits f.length × (least_space ≤ length out.old) }
-    ensures is { Wrote out.old 0 (message_for k dialogue (place_at (view t.now) p) (portion_by (form_for (pdu_number kind)) name.now information.now) f.fits) result out.new }
+    requires { Holds t.now p c × Follows (place_at (view t.now) p) (pdu_number kind) given.name.now given.information.now f.portion f.sent.fits f.sent.length × (least_space ≤ length out.old) }
+    ensures is { Wrote out.old 0 (message_for k dialogue (place_at (view t.now) p) (portion_by (form_for (pdu_number kind)) given.entry.name.now given.entry.information.now) f.sent.fits) result out.new }
     ensures within { result ≤ least_space }
 {
     let m = rest_size(f);
     let a = write_front(out, k, dialogue, c, m);
-    write_rest(out, a, t, p, c, kind, name, information, f)
+    write_rest(out, a, t, p, c, kind, given, f)
 }
 
+// Stays: a match on the kind, as in `portion_kind`.
 // "Begin (to Sent) ..; Continue (to Active) and basic end (frees)"; "Unidirectional (frees)"; "An end drops what it didn't send."
 fn leave(t: &mut [u8], p: usize, c: Control, k: Sending, fits: bool)
     requires { Holds t.old p c × (0 ≡ state_refusal k (place_at (view t.old) p)) }
@@ -225,11 +216,10 @@ fn try_send(
     service: u32,
     dialogue: u32,
     k: Sending,
-    name: &[u8],
-    information: &[u8],
+    given: Given,
     space: &mut [u8],
 ) -> Result<Effect, Refusal>
-    ensures { Ends (outcome (with_space table.old space.old) (OnDialogue service dialogue (sending k name.now information.now))) result (with_space table.new space.new) }
+    ensures { Ends (outcome (with_space table.old space.old) (OnDialogue service dialogue (sending k given.entry.name.now given.entry.information.now))) result (with_space table.new space.new) }
 {
     let lent = Spaces {
         rows: 0,
@@ -238,16 +228,17 @@ fn try_send(
     let p = call_entry::enter_at(table, lent, Spaces::MESSAGE, service, dialogue)?;
     let c = table_places::load(table, p);
     let kind = portion_kind(k);
-    refusal_with(table, p, c, k, kind, name, information)?;
-    let f = what_follows(table, p, c, kind, name, information);
-    let e = write_message(space, table, p, c, k, kind, dialogue, name, information, f);
-    leave(table, p, c, k, f.fits);
+    refusal_with(table, p, c, k, kind, given)?;
+    let f = what_follows(table, p, c, kind, given);
+    let e = write_message(space, table, p, c, k, kind, dialogue, given, f);
+    leave(table, p, c, k, f.sent.fits);
     Ok(Effect {
         length: e as u32,
         ..Effect::NONE
     })
 }
 
+// Stays: the name and the information are two arguments here, as host and the programs hand them on.
 pub fn send(
     table: &mut [u8],
     service: u32,
@@ -259,7 +250,8 @@ pub fn send(
 ) -> Reply
     ensures { Gives (outcome (record { table = table.old; rows = []; space = space.old }) (OnDialogue service dialogue (sending k name.now information.now))) result.answer result.rows result.length result.dialogue (record { table = table.new; rows = []; space = space.new }) }
 {
-    Reply::from(try_send(table, service, dialogue, k, name, information, space))
+    let given = Given { name, information };
+    Reply::from(try_send(table, service, dialogue, k, given, space))
 }
 
 // A user's Abort: it "writes a message only in Received and Active".

@@ -53,6 +53,7 @@ pub struct Sent {
     pub length: usize,
 }
 
+// Stays: table, place and record are three arguments, tied by Holds: a struct of them would borrow the table, which `leave_at` writes.
 // "then all waiting rejects if the sum is at most 240, else they wait", q octets of it the dialogue portion's (02 a): whether they go, and
 // the octets of components sent in all.
 pub fn sent_of(t: &[u8], p: usize, c: Control, q: usize) -> Sent

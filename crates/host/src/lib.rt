@@ -1,3 +1,4 @@
+// Stays: each call has slices and numbers one by one, and answers by numbers: these are the C interface.
 // THE CALLS, as a C host sees them (include/tcap.h): each hands on to the crate that has it.
 #![tactic(auto)]
 
@@ -69,7 +70,7 @@ pub extern "C" fn tcap_invoke_linked(
 {
     let octet = call_entry::octet_of(id);
     let other = call_entry::octet_of(linked);
-    let partner = other as u32;
+    let partner = u32::from(other);
     let invoke = Passing::AnInvoke(octet, partner, class);
     call_pass::pass(table, service, dialogue, invoke, operation, parameter)
 }

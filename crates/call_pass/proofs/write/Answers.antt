@@ -1,4 +1,7 @@
 use native.Mathlib.Omega.{arith}
+use Prim.Native.Nat.{ℕ, ◌+◌, ◌≤◌}
+use lib.ListN.{length}
+use Rattle.writing_octets.specs.Lengths.{reject_size}
 use mathlib.Core.Path.{sym, ap, subst}
 use Rattle.laws.specs.Runs.{wrote_as}
 use Rattle.call_pass.specs.declared.Passing.{Passing}
@@ -21,7 +24,7 @@ write_error-requires c =
 pub write_reject-requires : goal.write_reject-requires
 write_reject-requires c =
     let w = subst (Writing c.args.code.now c.args.par.now c.args.t.now c.args.at) c.in-AReject.is c.requires in
-    (search rules, omega (arith, w.0), w.1)
+    (search rules, omega (arith, w.0), subst (λ (i : ℕ). c.args.at + reject_size i ≤ length c.args.t.now) (sym c.from.ensures) w.1)
 
 pub returns-in-AnInvoke : goal.returns-in-AnInvoke
 returns-in-AnInvoke c =
@@ -37,4 +40,4 @@ returns-in-AnError c =
 
 pub returns-in-AReject : goal.returns-in-AReject
 returns-in-AReject c =
-    wrote_as c.write_reject.ensures.is (ap (λ (w : Passing). octets_of w c.args.code.now c.args.par.now) (sym c.in-AReject.is))
+    wrote_as (rw c.from.ensures at c.write_reject.ensures.is) (ap (λ (w : Passing). octets_of w c.args.code.now c.args.par.now) (sym c.in-AReject.is))

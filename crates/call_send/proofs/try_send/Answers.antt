@@ -15,8 +15,8 @@ use Rattle.call_send.proofs.try_send.Goals as goal
 
 pub returns-in_err-p : goal.returns-in_err-p
 returns-in_err-p c =
-    let m = meets-as (sending-spaces c.args.k c.args.name.now c.args.information.now) c.in_err-p.ensures in
-    dialogue-entry (with_space c.args.table.now c.args.space.now) c.args.service c.args.dialogue (sending c.args.k c.args.name.now c.args.information.now) c.from_residual.result c.in_err-p.field-0.0 c.from_residual.ensures.1 m.is
+    let m = meets-as (sending-spaces c.args.k c.args.given.name.now c.args.given.information.now) c.in_err-p.ensures in
+    dialogue-entry (with_space c.args.table.now c.args.space.now) c.args.service c.args.dialogue (sending c.args.k c.args.given.name.now c.args.given.information.now) c.from_residual.result c.in_err-p.field-0.0 c.from_residual.ensures.1 m.is
 
 pub load-c-requires : goal.load-c-requires
 load-c-requires c =
@@ -29,16 +29,16 @@ refusal_with-requires c =
 
 pub returns-in_err-refusal_with : goal.returns-in_err-refusal_with
 returns-in_err-refusal_with c =
-    let m = meets-as (sending-spaces c.args.k c.args.name.now c.args.information.now) c.in_ok-p.ensures in
+    let m = meets-as (sending-spaces c.args.k c.args.given.name.now c.args.given.information.now) c.in_ok-p.ensures in
     let x : Place = place_at (view c.args.table.now) c.in_ok-p.p in
-    dialogue-refusal (with_space c.args.table.now c.args.space.now) c.args.service c.args.dialogue (sending c.args.k c.args.name.now c.args.information.now) c.in_ok-p.p m.inside
+    dialogue-refusal (with_space c.args.table.now c.args.space.now) c.args.service c.args.dialogue (sending c.args.k c.args.given.name.now c.args.given.information.now) c.in_ok-p.p m.inside
     c.from_residual-in_err-refusal_with.result c.in_err-refusal_with.field-0.0 c.from_residual-in_err-refusal_with.ensures.1
-    (sending-refusal x c.args.name.now c.args.information.now c.args.k (pdu_number c.portion_kind-kind.result) (state_refusal c.args.k x) _ (ap pdu_number c.portion_kind-kind.ensures) refl c.in_err-refusal_with.ensures)
+    (sending-refusal x c.args.given.name.now c.args.given.information.now c.args.k (pdu_number c.portion_kind-kind.result) (state_refusal c.args.k x) _ (ap pdu_number c.portion_kind-kind.ensures) refl c.in_err-refusal_with.ensures)
 
 pub what_follows-f-requires : goal.what_follows-f-requires
 what_follows-f-requires c =
     let x : Place = place_at (view c.args.table.now) c.in_ok-p.p in
-    (inside-holds c.in_ok-p.ensures.inside c.load-c.ensures, not-abrt c.args.k c.portion_kind-kind.ensures, (first-zero (state_refusal c.args.k x) (portion_refusal x (form_for (pdu_number c.portion_kind-kind.result)) c.args.name.now c.args.information.now) 0 refl c.in_ok-refusal_with.ensures).1)
+    (inside-holds c.in_ok-p.ensures.inside c.load-c.ensures, not-abrt c.args.k c.portion_kind-kind.ensures, (first-zero (state_refusal c.args.k x) (portion_refusal x (form_for (pdu_number c.portion_kind-kind.result)) c.args.given.name.now c.args.given.information.now) 0 refl c.in_ok-refusal_with.ensures).1)
 
 pub write_message-e-requires : goal.write_message-e-requires
 write_message-e-requires c =
@@ -51,10 +51,10 @@ leave-requires c =
 
 pub returns : goal.returns
 returns c =
-    let m = meets-as (sending-spaces c.args.k c.args.name.now c.args.information.now) c.in_ok-p.ensures in
+    let m = meets-as (sending-spaces c.args.k c.args.given.name.now c.args.given.information.now) c.in_ok-p.ensures in
     let x : Place = place_at (view c.args.table.now) c.in_ok-p.p in
-    send-done c.args.table.now c.args.space.now c.args.service c.args.dialogue (sending c.args.k c.args.name.now c.args.information.now) c.in_ok-p.p m.inside
-    (place_after c.args.k x c.what_follows-f.result.fits) (message_for c.args.k c.args.dialogue x (portion_by (form_for (pdu_number c.portion_kind-kind.result)) c.args.name.now c.args.information.now) c.what_follows-f.result.fits)
-    (sending-refusal x c.args.name.now c.args.information.now c.args.k (pdu_number c.portion_kind-kind.result) (state_refusal c.args.k x) 0 (ap pdu_number c.portion_kind-kind.ensures) refl c.in_ok-refusal_with.ensures)
-    (sending-does c.args.dialogue x c.args.name.now c.args.information.now c.args.k (pdu_number c.portion_kind-kind.result) (ap pdu_number c.portion_kind-kind.ensures) c.what_follows-f.ensures)
+    send-done c.args.table.now c.args.space.now c.args.service c.args.dialogue (sending c.args.k c.args.given.name.now c.args.given.information.now) c.in_ok-p.p m.inside
+    (place_after c.args.k x c.what_follows-f.result.sent.fits) (message_for c.args.k c.args.dialogue x (portion_by (form_for (pdu_number c.portion_kind-kind.result)) c.args.given.name.now c.args.given.information.now) c.what_follows-f.result.sent.fits)
+    (sending-refusal x c.args.given.name.now c.args.given.information.now c.args.k (pdu_number c.portion_kind-kind.result) (state_refusal c.args.k x) 0 (ap pdu_number c.portion_kind-kind.ensures) refl c.in_ok-refusal_with.ensures)
+    (sending-does c.args.dialogue x c.args.given.name.now c.args.given.information.now c.args.k (pdu_number c.portion_kind-kind.result) (ap pdu_number c.portion_kind-kind.ensures) c.what_follows-f.ensures)
     c.write_message-e.result c.leave.new.t c.write_message-e.new.out c.leave.ensures c.write_message-e.ensures.is refl

@@ -9,21 +9,21 @@ use Rattle.writing_portions.specs.Forms.{not-four}
 use Rattle.paper.specs.Refusals.{pdu_number}
 use Rattle.call_send.proofs.what_follows.Goals as goal
 
-pub portion_size-q-requires : goal.portion_size-q-requires
-portion_size-q-requires c =
+pub portion_size-portion-requires : goal.portion_size-portion-requires
+portion_size-portion-requires c =
     let x : Place = place_at (view c.args.t.now) c.args.p in
-    given-short x (pdu_number c.args.kind) c.args.name.now c.args.information.now c.requires.2 (not-four c.args.kind c.requires.1)
+    given-short x (pdu_number c.args.kind) c.args.given.name.now c.args.given.information.now c.requires.2 (not-four c.args.kind c.requires.1)
 
-pub sent_of-s-requires : goal.sent_of-s-requires
-sent_of-s-requires c =
+pub sent_of-sent-requires : goal.sent_of-sent-requires
+sent_of-sent-requires c =
     let x : Place = place_at (view c.args.t.now) c.args.p in
-    (c.requires.0, omega (arith, c.portion_size-q.ensures.is, portion-length (pdu_number c.args.kind) c.args.name.now c.args.information.now, portion-room x (pdu_number c.args.kind) c.args.name.now c.args.information.now c.requires.2))
+    (c.requires.0, omega (arith, c.portion_size-portion.ensures.is, portion-length (pdu_number c.args.kind) c.args.given.name.now c.args.given.information.now, portion-room x (pdu_number c.args.kind) c.args.given.name.now c.args.given.information.now c.requires.2))
 
 pub returns : goal.returns
 returns c =
     let x : Place = place_at (view c.args.t.now) c.args.p in
     record {
-      short = given-short x (pdu_number c.args.kind) c.args.name.now c.args.information.now c.requires.2 (not-four c.args.kind c.requires.1);
-      portion = c.portion_size-q.ensures.is ∙ sym (portion-length (pdu_number c.args.kind) c.args.name.now c.args.information.now);
-      sends = c.sent_of-s.ensures;
+      short = given-short x (pdu_number c.args.kind) c.args.given.name.now c.args.given.information.now c.requires.2 (not-four c.args.kind c.requires.1);
+      portion = c.portion_size-portion.ensures.is ∙ sym (portion-length (pdu_number c.args.kind) c.args.given.name.now c.args.given.information.now);
+      sends = c.sent_of-sent.ensures;
     }

@@ -8,4 +8,4 @@ use Rattle.host.proofs.tcap_invoke_linked.Goals as goal
 pub returns : goal.returns
 returns c =
     of-octet _ (λ (o : ℕ). OnDialogue c.args.service c.args.dialogue (Invoke (octet_of c.args.id) o c.args.class c.args.operation.now c.args.parameter.now)) c.args.linked c.ranges.linked c.octet_of-other.ensures
-    (of-octet _ (λ (o : ℕ). OnDialogue c.args.service c.args.dialogue (Invoke o c.octet_of-other.result c.args.class c.args.operation.now c.args.parameter.now)) c.args.id c.ranges.id c.octet_of-octet.ensures c.pass.ensures)
+    (of-octet _ (λ (o : ℕ). OnDialogue c.args.service c.args.dialogue (Invoke o c.octet_of-other.result c.args.class c.args.operation.now c.args.parameter.now)) c.args.id c.ranges.id c.octet_of-octet.ensures (rw c.from-partner.ensures at c.pass.ensures))
