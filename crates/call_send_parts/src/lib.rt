@@ -96,7 +96,7 @@ fn without_rejects(c: Control) -> Control
 {
     Control {
         count: 0,
-        rejects: [Reject { id: 0, problem: 0 }; MOST_REJECTS],
+        rejects: [Reject::NONE; MOST_REJECTS],
         ..c
     }
 }

@@ -9,7 +9,6 @@ ghost use Rattle.paper.specs.Kinds.{row_rejected};
 ghost use Rattle.paper.specs.Invocations.{no_invocation, sent, slot_of, invocation_of, takes, answer_kind, answer_problem, answers_sent, answers, invokes, released, reject_kind, rejects, is_answer, faults, act, with_reject};
 ghost use Rattle.dialogue_acts.specs.Told.{taken, stored_kind, turned, changed, does, stay, puts};
 
-use dialogue_invocations::NO_INVOCATION;
 use paper::{
     Component, Control, ERROR_TAG, IDLE, INVOKE_TAG, Invocation, LAST_TAG, MOST_INVOCATIONS,
     NO_FAULT, NO_ID, NO_PROBLEM, NOT_LAST_TAG, REJECT_TAG, ROW_ERROR, ROW_INVOKE, ROW_LAST,
@@ -135,7 +134,7 @@ fn answer_sent(l: [Invocation; MOST_INVOCATIONS], i: usize, tag: u8, kind: u32) 
 {
     let v = l[i];
     match takes(v.class, tag) {
-        Taken::Rejected => puts(kind, answer_problem(tag, 1), i, NO_INVOCATION),
+        Taken::Rejected => puts(kind, answer_problem(tag, 1), i, Invocation::NONE),
         Taken::StaysSent => puts(
             answer_kind(tag),
             NO_PROBLEM,
@@ -181,7 +180,7 @@ fn release(l: [Invocation; MOST_INVOCATIONS], id: u32, kind: u32, problem: u32) 
     ensures told { (result.kind ≡ kind) × (result.problem ≡ problem) }
 {
     match sent_slot(l, id) {
-        Some(i) => puts(kind, problem, i, NO_INVOCATION),
+        Some(i) => puts(kind, problem, i, Invocation::NONE),
         None => stays(kind, problem),
     }
 }

@@ -9,14 +9,6 @@ ghost use Rattle.paper.specs.Invocations.{no_invocation, is_open, is_idle, slot_
 
 use paper::{Control, IDLE, Invocation, MOST_INVOCATIONS, PENDING, REJECTING, SENT, WAIT};
 
-// One not in use.
-pub const NO_INVOCATION: Invocation = Invocation {
-    id: 0,
-    class: 0,
-    state: IDLE,
-    shown: 0,
-};
-
 #[tactic(auto, unfolding(paper::specs::Invocations::is_idle))]
 fn is_idle(v: Invocation) -> bool
     ensures { result ≡ is_idle v }
@@ -67,7 +59,7 @@ pub fn invocation_at(l: [Invocation; MOST_INVOCATIONS], slot: Option<usize>) -> 
 {
     match slot {
         Some(i) => l[i],
-        None => NO_INVOCATION,
+        None => Invocation::NONE,
     }
 }
 
@@ -100,7 +92,7 @@ pub fn to_idle(c: Control, id: u32, i: usize) -> Control
     requires { (i < most_invocations) × (i ≡ slot_of c.invocations id) }
     ensures { result ≡ to_idle c id }
 {
-    put_invocation(c, i, NO_INVOCATION)
+    put_invocation(c, i, Invocation::NONE)
 }
 
 // The same, its slot looked up.

@@ -124,12 +124,25 @@ pub struct Invocation {
     pub shown: u8,
 }
 
+impl Invocation {
+    pub const NONE: Invocation = Invocation {
+        id: 0,
+        class: 0,
+        state: IDLE,
+        shown: 0,
+    };
+}
+
 // A waiting reject: its invoke ID, 256 none; its problem as in a row.
 // Stays: 256 for none is what the definition reject_by (specs/Layout) reads from the table's octets and reject_octets writes.
 #[derive(Clone, Copy)]
 pub struct Reject {
     pub id: u32,
     pub problem: u32,
+}
+
+impl Reject {
+    pub const NONE: Reject = Reject { id: 0, problem: 0 };
 }
 
 // What a place holds beside its waiting octets. state: 0 free, 1 Open, 2 Sent, 3 Received, 4 Active.
@@ -143,8 +156,8 @@ pub struct Control {
     pub peerlen: u8,
     pub peer: [u8; 4],
     pub count: u8,
-    pub invocations: [Invocation; 8],
-    pub rejects: [Reject; 8],
+    pub invocations: [Invocation; MOST_INVOCATIONS],
+    pub rejects: [Reject; MOST_REJECTS],
 }
 
 // A row: eight numbers.

@@ -14,9 +14,7 @@ pub fn word(t: &[u8], a: usize) -> u64
     requires { a + 8 ≤ length t.now }
     ensures { result ≡ word_at t.now a }
 {
-    let mut octets = [0; 8];
-    octets.copy_from_slice(&t[a..a + 8]);
-    u64::from_le_bytes(octets)
+    u64::from_le_bytes(*t[a..].first_chunk().unwrap())
 }
 
 fn lowest_of(low: u64, high: u64) -> u32

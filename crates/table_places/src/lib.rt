@@ -18,17 +18,6 @@ use paper::{
     MOST_WAITING, PLACE_OCTETS, PLACES, PLACES_IN_ALL, REJECTS, Reject, TURN, TURNS,
 };
 
-// What stands where no invocation and no reject is.
-// Stays: dialogue_invocations has this constant too; to share it, this crate and those above it would stand on that one for a line.
-const NO_INVOCATION: Invocation = Invocation {
-    id: 0,
-    class: 0,
-    state: 0,
-    shown: 0,
-};
-
-const NO_REJECT: Reject = Reject { id: 0, problem: 0 };
-
 // Stays: the table is a slice with its length in the clauses, as the C interface lends it; Ready, which the calls keep, has the length too.
 // Stays: the table and a place's number are two parameters, as `place_at` and `with_place` of paper/specs/Calls take them.
 // ---- LOADED
@@ -114,8 +103,8 @@ pub fn begun(turn: u32, state: u8, service: u8, peerlen: u8, peer: [u8; 4]) -> C
         peerlen,
         peer,
         count: 0,
-        invocations: [NO_INVOCATION; MOST_INVOCATIONS],
-        rejects: [NO_REJECT; MOST_REJECTS],
+        invocations: [Invocation::NONE; MOST_INVOCATIONS],
+        rejects: [Reject::NONE; MOST_REJECTS],
     }
 }
 
