@@ -10,12 +10,7 @@ use call_entry::{Effect, Reply};
 use paper::{LEAST_ROWS, Refusal};
 
 // The portion at a run of a message, as a row gives it.
-fn try_portion(
-    message: &[u8],
-    start: usize,
-    len: usize,
-    rows: &mut [u8],
-) -> Result<Effect, Refusal>
+fn try_portion(message: &[u8], start: usize, len: usize, rows: &mut [u8]) -> Result<Effect, Refusal>
     ensures { Ends (portion_outcome rows.old message.now start len) result (only_rows rows.new) }
 {
     if rows.len() < LEAST_ROWS {

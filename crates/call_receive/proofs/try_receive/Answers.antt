@@ -20,8 +20,8 @@ pub returns-then-is_empty : goal.returns-then-is_empty
 returns-then-is_empty c =
     let l : Lent = record { table = c.args.table.now; rows = c.args.rows.now; space = c.args.space.now } in
     elim c.then-is_empty.branch [
-      then-is_empty-via-then-is_empty w ↦ no-octets l c.args.service c.args.message.now c.in_ok-may.ensures.inside.within (search rules) refl
-    | then-is_empty-via-else-is_empty+then-message-gt-LONGEST_MESSAGE w ↦ too_many l c.args.service c.args.message.now c.in_ok-may.ensures.inside.within (omega arith) refl
+      | then-is_empty-via-then-is_empty w ↦ no-octets l c.args.service c.args.message.now c.in_ok-may.ensures.inside.within (search rules) refl
+      | then-is_empty-via-else-is_empty+then-message-gt-LONGEST_MESSAGE w ↦ too_many l c.args.service c.args.message.now c.in_ok-may.ensures.inside.within (omega arith) refl
     ]
 
 pub receive-r-requires : goal.receive-r-requires
