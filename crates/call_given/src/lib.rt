@@ -93,7 +93,7 @@ pub fn is_information(l: &[u8]) -> bool
     l.is_empty() || is_block(l)
 }
 
-// Stays: `n ≤ most_waiting` stands in the clauses of each: n is what table_places::waiting_length promises of a usize, and is added to.
+// Stays: `n ≤ most_waiting` stands in the clauses of each: n is what table_places::waiting_length promises of a usize; a type with that bound would be made and opened at each of its uses.
 // "waiting components .. over 240 octets": whether so many more go with the n that wait.
 #[tactic(auto, unfolding(laws::specs::If::if_lt))]
 pub fn over_by(n: usize, size: usize) -> Result<(), Refusal>

@@ -62,7 +62,7 @@ fn peer_of(s: &[u8], id: Run) -> [u8; 4]
     ]
 }
 
-// Stays: the place is reckoned here and below: with a function `place_of` the proofs of six functions, as they are, didn't close.
+// Stays: the place is reckoned here and below: a function `place_of` was tried, and the proofs of six functions that call it didn't close.
 // "It is assigned when it is the four octets of this service's dialogue in Sent, Received or Active."
 fn assigned(t: &[u8], service: u32, s: &[u8], m: Message) -> bool
     requires { Ready t.now × Read s.now m }

@@ -117,19 +117,19 @@ module _ (c : Control) (id i : ℕ) (l : List Invocation) (e : l ≡ c.invocatio
   slot : i ≡ slot_of c.invocations id
   slot = s ∙ ap (λ (l : List Invocation). slot_of l id) e
 
-  module _ (h : i < 8) (u : (get_or l i no_invocation).state ≡ sent) where
-    pub sent-found : state_of c id ≡ sent
-    sent-found = sym (ap (λ (v : Invocation). v.state) found) ∙ u
+  pub state-is : (n : ℕ) → n ≡ (get_or l i no_invocation).state → state_of c id ≡ n
+  state-is n q = sym (q ∙ ap (λ (v : Invocation). v.state) found)
 
+  module _ (h : i < 8) where
     -- to Idle
     idle-put : (k p : ℕ) → to_idle c id ≡ turned c id (puts k p i no_invocation)
     idle-put k p = turned-idle c id (Some (i, no_invocation)) i no_invocation refl h refl
 
-    pub release-put : (k p : ℕ) (t : Told) → t ≡ puts k p i no_invocation → released c id ≡ turned c id t
+    pub release-put : (n k p : ℕ) (t : Told) → n ≡ (get_or l i no_invocation).state → n ≡ 2 → t ≡ puts k p i no_invocation → released c id ≡ turned c id t
     unfolding released
-    release-put k p t w = sym (eq _ _ _ _ sent-found refl) ∙ idle-put k p ∙ ap (turned c id) (sym w)
+    release-put n k p t q z w = sym (eq _ _ _ _ (state-is n q ∙ z) refl) ∙ idle-put k p ∙ ap (turned c id) (sym w)
 
-    -- an answer to it: rejected, shown, or the last
+    -- an answer to it, if it is Sent: rejected, shown, or the last
     module _ (room tag n k : ℕ) (took : n ≡ takes (get_or l i no_invocation).class tag) where
       class : takes (invocation_of c.invocations id).class tag ≡ n
       class = ap (λ (v : Invocation). takes v.class tag) (sym found) ∙ sym took
@@ -151,22 +151,22 @@ module _ (c : Control) (id i : ℕ) (l : List Invocation) (e : l ≡ c.invocatio
           ∙ ap (λ (v : Invocation). with_invocation c i (f v)) (sym found)
           ∙ turned-some c id (Some (i, f (get_or l i no_invocation))) i (f (get_or l i no_invocation)) refl h u
 
-      pub sent-shown : (t : Told) → t ≡ puts k no_problem i (was_shown (get_or l i no_invocation)) → k ≡ answer_kind tag → k < 13 → n ≡ 1
+      pub sent-shown : (t : Told) → (get_or l i no_invocation).state ≡ sent → t ≡ puts k no_problem i (was_shown (get_or l i no_invocation)) → k ≡ answer_kind tag → k < 13 → n ≡ 1
           → does c id t ≡ answers_sent room c tag id
       unfolding answers_sent not_last_shown
-      sent-shown t q a low z =
+      sent-shown t u q a low z =
           ap (does c id) q
           ∙ told-shown c (not_last_shown c id) id (puts k no_problem i (was_shown (get_or l i no_invocation)))
           (put_is was_shown (λ z. omega arith) no_problem) (λ x. omega arith)
           ∙ ap (λ (k : ℕ). acted (not_last_shown c id) k no_problem) a
           ∙ ne _ _ _ _ (λ x. omega (arith, class)) (eq _ _ _ _ (class ∙ z) refl)
 
-      pub sent-waits : (t : Told) → t ≡ puts k no_problem i (in_state (get_or l i no_invocation) wait) → k ≡ answer_kind tag → k < 13 → n ≡ 2
+      pub sent-waits : (t : Told) → t ≡ puts k no_problem i (in_state (get_or l i no_invocation) wait) → k ≡ answer_kind tag → k < 13 → (n ≡ 0 → ⊥) → (n ≡ 1 → ⊥)
           → does c id t ≡ answers_sent room c tag id
       unfolding answers_sent to_state
-      sent-waits t q a low z =
+      sent-waits t q a low some other =
           ap (does c id) q
           ∙ told-shown c (to_state c id wait) id (puts k no_problem i (in_state (get_or l i no_invocation) wait))
           (put_is (λ (v : Invocation). in_state v wait) (λ z. omega arith) no_problem) (λ x. omega arith)
           ∙ ap (λ (k : ℕ). acted (to_state c id wait) k no_problem) a
-          ∙ ne _ _ _ _ (λ x. omega (arith, class)) (ne _ _ _ _ (λ x. omega (arith, class)) refl)
+          ∙ ne _ _ _ _ (λ x. some (sym class ∙ x)) (ne _ _ _ _ (λ x. other (sym class ∙ x)) refl)

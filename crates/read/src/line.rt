@@ -1,5 +1,5 @@
 // A line of hex octets, taken in an octet of text at a time.
-ghost use Rattle.std.specs.Prelude.{◌≤◌};
+ghost use Rattle.std.specs.Prelude.{◌≡◌, ◌<◌, ◌≤◌, unwrap_or};
 
 use crate::show;
 use paper::LONGEST_MESSAGE;
@@ -25,11 +25,14 @@ pub struct Line {
     digit: Option<u8>,
     rest: Rest,
     ghost short: { count ≤ 513 },
+    ghost low: { unwrap_or digit 0 < 16 },
 }
 
 impl Line {
     // The first line, before its first octet.
-    pub fn first() -> Line {
+    pub fn first() -> Line
+        ensures { result.count ≡ 0 }
+    {
         Line {
             number: 1,
             octets: [0; ROOM],
@@ -48,7 +51,9 @@ impl Line {
     }
 
     // A hex digit: the second makes an octet of the two.
-    fn with_digit(&mut self, d: u8) {
+    fn with_digit(&mut self, d: u8)
+        requires { d < 16 }
+    {
         match self.digit {
             None => self.digit = Some(d),
             Some(high) => {

@@ -2,7 +2,7 @@ use Rattle.std.proofs.Common.{refl, ap, ◌∙◌, List}
 use Rattle.laws.specs.If.{eq, ne}
 use Rattle.paper.specs.declared.Invocation.{Invocation}
 use Rattle.paper.specs.Invocations.{answers, rejected, invocation_of}
-use Rattle.dialogue_acts.specs.Told.{sent-found, stays-stored}
+use Rattle.dialogue_acts.specs.Told.{state-is, stays-stored}
 use Rattle.dialogue_acts.proofs.answer.Goals as goal
 
 pub returns-in-Some-clause-is : goal.returns-in-Some-clause-is
@@ -10,7 +10,7 @@ unfolding answers
 returns-in-Some-clause-is c =
     λ room d e q.
     let s = c.in-Some.ensures.some in
-    c.answer_sent.ensures.is room c.args.id d e s.1 q ∙ eq _ _ _ _ (sent-found d c.args.id c.in-Some.i c.args.l e s.1 s.0 s.2) refl
+    c.answer_sent.ensures.is room c.args.id d e s.1 q ∙ eq _ _ _ _ (state-is d c.args.id c.in-Some.i c.args.l e s.1 _ refl ∙ s.2) refl
 
 pub returns-in-None-clause-is : goal.returns-in-None-clause-is
 unfolding answers

@@ -1,4 +1,4 @@
-use Rattle.std.proofs.Common.{ap, ◌∙◌, List}
+use Rattle.std.proofs.Common.{ap, ◌∙◌, refl, List}
 use Rattle.paper.specs.declared.Invocation.{Invocation}
 use Rattle.paper.specs.Invocations.{invocation_of}
 use Rattle.dialogue_acts.specs.Told.{release-put, release-none}
@@ -7,7 +7,7 @@ use Rattle.dialogue_acts.proofs.release.Goals as goal
 pub returns-in-Some-clause-is : goal.returns-in-Some-clause-is
 returns-in-Some-clause-is c =
     let s = c.in-Some.ensures.some in
-    λ d e. release-put d c.args.id c.in-Some.i c.args.l e s.1 s.0 s.2 _ _ _ c.puts.ensures
+    λ d e. release-put d c.args.id c.in-Some.i c.args.l e s.1 s.0 _ _ _ _ refl s.2 c.puts.ensures
 
 pub returns-in-None-clause-is : goal.returns-in-None-clause-is
 returns-in-None-clause-is c =
