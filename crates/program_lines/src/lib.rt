@@ -1,7 +1,7 @@
 // The lines of standard input, one after another, each in a lent space.
 #![tactic(auto)]
 
-ghost use Rattle.std.specs.Prelude.{◌≡◌, ◌≤◌, length, IfSome};
+ghost use Rattle.std.specs.Prelude.{◌≡◌, ◌≤◌, length, IfSome, Some};
 ghost use Rattle.program_lines.specs.Within.{Within, Short, unread};
 
 use std::io::Read;
@@ -63,14 +63,31 @@ fn with(line: &mut [u8], count: Option<usize>, x: u8) -> Option<usize>
     Some(n + 1)
 }
 
+// Before the next line's first octet: its number, and nothing taken of it, nor of the buffer. How many octets it takes.
+fn begin(lines: &mut Lines) -> Option<usize>
+    ensures { (result ≡ Some 0) × (lines.new.at ≡ lines.old.at) × (lines.new.have ≡ lines.old.have) }
+{
+    lines.number = lines.number.wrapping_add(1);
+    Some(0)
+}
+
+// The line that was begun last, at its end: it takes as many octets as were put.
+fn ended(lines: &Lines, count: Option<usize>) -> Line
+    ensures { result.count ≡ count }
+{
+    Line {
+        number: lines.number,
+        count,
+    }
+}
+
 // The next line, none where the input has ended. Nothing says that a line ends, so the loop counts its turns, up to a number that no
 // run uses up.
 pub fn next(rt: &impl Input, buf: &mut [u8], line: &mut [u8], lines: &mut Lines) -> Option<Line>
     requires { Within (length buf.old) lines.old }
     ensures { Within (length buf.new) lines.new × IfSome result (λ l. Short (length line.new) l.count) }
 {
-    lines.number = lines.number.wrapping_add(1);
-    let mut count = Some(0);
+    let mut count = begin(lines);
     for _ in 0..u64::MAX {
         match octet(rt, buf, lines) {
             None if count == Some(0) => return None,
@@ -78,10 +95,7 @@ pub fn next(rt: &impl Input, buf: &mut [u8], line: &mut [u8], lines: &mut Lines)
             Some(x) => count = with(line, count, x),
         }
     }
-    Some(Line {
-        number: lines.number,
-        count,
-    })
+    Some(ended(lines, count))
 }
 
 // A line that cannot be read: its number and `bad`. How many octets that is.

@@ -43,7 +43,9 @@ impl Line {
     }
 
     // The line after it, before its first octet.
-    fn next(&mut self) {
+    fn next(&mut self)
+        ensures { self.new.count ≡ 0 }
+    {
         self.number = self.number.wrapping_add(1);
         self.count = 0;
         self.digit = None;

@@ -17,14 +17,15 @@ pub fn put(out: &mut [u8], at: usize, v: u8) -> usize
     at + 1
 }
 
-// Given octets, copied.
+// Given octets, copied, by a loop: `copy_from_slice` would have the archive need memmove from outside.
 pub fn copy_at(out: &mut [u8], at: usize, given: &[u8]) -> usize
     requires { at + length given.now ≤ length out.old }
     ensures { Wrote out.old at given.now result out.new }
 {
-    let end = at + given.len();
-    out[at..end].copy_from_slice(given);
-    end
+    for (i, v) in given.iter().enumerate() {
+        out[at + i] = *v;
+    }
+    at + given.len()
 }
 
 // The octets that the shortest definite length of n takes.

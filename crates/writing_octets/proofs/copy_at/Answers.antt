@@ -1,21 +1,14 @@
-use Rattle.std.proofs.Common.{ℕ, ◌≡◌, ◌+◌, ◌-◌, List, take, drop, length, refl, sym, ap, ◌∙◌, append_assoc, arith, rules}
-use Rattle.std.proofs.lemmas.List.Edits.{sets-eq}
-use borrow.Rule.Slice.PartMut.{put_mid}
-use Rattle.laws.specs.Parts.{over, put-over}
+use Rattle.std.proofs.Common.{refl, arith, ap, ◌∙◌}
+use lib.ListN.{length-set}
+use lib.Seq.{sets, take_all}
+use Rattle.laws.specs.Runs.{copied_more}
 use Rattle.writing_octets.proofs.copy_at.Goals as goal
 
+pub loop-i-init : goal.loop-i-init
+loop-i-init c = (refl, refl)
+
+pub loop-i-preserved : goal.loop-i-preserved
+loop-i-preserved c = (simp length-set c.loop-i.invariant.0, copied_more _ _ _ _ _ c.loop-i.invariant.1 c.loop-i-test.true)
+
 pub returns : goal.returns
-unfolding over
-returns c =
-    let at : ℕ = c.args.at in
-    let t : List ℕ = c.args.out.now in
-    let v : List ℕ = c.args.given.now in
-    let k : length v ≡ at + length v - at = omega arith in
-    record {
-      past = refl;
-      holds = ap (put_mid at (at + length v - at) t) c.copy_from_slice.ensures.after
-          ∙ put-over at (at + length v - at) t v k
-          ∙ sym (append_assoc (take at t) v (drop (at + length v) t))
-          ∙ sym (sets-eq v t at (omega arith));
-      long = search rules;
-    }
+returns c = record { past = refl; holds = c.loop-i.invariant.1 ∙ ap (sets _ _) (take_all _ _ c.loop-i-test.false); long = c.loop-i.invariant.0 }
